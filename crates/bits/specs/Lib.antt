@@ -1,0 +1,3 @@
+-- Word operations (Ops) and the unsplit form of the masked adder (Adder).
+pub mod Ops
+pub mod Adder

@@ -1,0 +1,1 @@
+// Word arithmetic as mathematics: `specs/` has the operations, `proofs/` their laws. No functions.

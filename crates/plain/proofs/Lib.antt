@@ -1,0 +1,3 @@
+-- Laws of the plain machine for its callers' proofs.
+pub mod Laws
+mod Examples

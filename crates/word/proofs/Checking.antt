@@ -1,0 +1,52 @@
+-- The search for the first bad word, over any way of taking words apart: its turns, and that the place found is that of the first bad word.
+use mathlib.Core.Path.{_≡_, refl, sym, ap, _∙_}
+use mathlib.Core.List.{List, [], _∷_}
+use Prim.Native.Nat.{ℕ, zero, suc, _+_, _≤_, _<_}
+use native.Mathlib.Nat.{add-zero}
+use native.Mathlib.Numerals.{add-one}
+use native.Mathlib.Omega.{arith}
+use lib.ListN.{length, getD, drop, drop-of-length-le}
+use lib.Seq.{drop-cons}
+use Rattle.word.specs.declared.step.Step.{Step}
+use Rattle.word.specs.declared.step.Decoded.{Decoded}
+use Rattle.word.specs.declared.step.Decoded.the-variants.{Good, Bad}
+use Rattle.word.specs.Answers.{firstOf, firstBad, FirstBad}
+
+module _ (step : ℕ → Decoded) (l : List ℕ) (i : ℕ) where
+  -- what the loop keeps: no word before place i is bad
+  abbrev pub Passed : Type 0
+  Passed = firstBad step l ≡ i + firstBad step (drop i l)
+
+  -- a good word is passed
+  pub passed-one : Passed → i < length l → {s : Step} → step (getD l i 0) ≡ Good s → firstBad step l ≡ i + 1 + firstBad step (drop (i + 1) l)
+  passed-one h lt {s} e =
+      h ∙ ap (λ (r : List ℕ). i + firstBad step r) (drop-cons l i 0 lt)
+      ∙ ap (λ (d : Decoded). i + firstOf d (firstBad step (drop (suc i) l))) e
+      ∙ ap (λ (k : ℕ). i + suc (firstBad step (drop k l))) (sym (add-one i)) ∙ omega arith
+
+  -- the search ends at a bad word
+  pub at-bad : Passed → i < length l → step (getD l i 0) ≡ Bad → i ≡ firstBad step l
+  at-bad h lt e =
+      sym (h ∙ ap (λ (r : List ℕ). i + firstBad step r) (drop-cons l i 0 lt) ∙ ap (λ (d : Decoded). i + firstOf d (firstBad step (drop (suc i) l))) e ∙ add-zero i)
+
+  -- or at the end
+  pub at-end : Passed → length l ≤ i → i ≡ firstBad step l
+  at-end h le = sym (h ∙ ap (λ (r : List ℕ). i + firstBad step r) (drop-of-length-le l le) ∙ add-zero i)
+
+-- the place is that of the first bad word, and the end only where there is none
+pub first-bad : (step : ℕ → Decoded) (l : List ℕ) → FirstBad step l (firstBad step l)
+first-bad step [] = record { within = omega arith; good = λ k h. absurd (omega arith); bad = λ h. absurd (omega arith) }
+first-bad step (w ∷ ws) = by (step w) refl (first-bad step ws)
+  where
+    by : (d : Decoded) → step w ≡ d → FirstBad step ws (firstBad step ws) → FirstBad step (w ∷ ws) (firstOf d (firstBad step ws))
+    by (Good s) e r =
+        record {
+          within = omega (arith, r .within);
+          good = λ k h. earlier k h;
+          bad = λ h. r .bad (omega arith);
+        }
+      where
+        earlier : (k : ℕ) → k < suc (firstBad step ws) → (t : Step) × (step (getD (w ∷ ws) k 0) ≡ Good t)
+        earlier zero h = (s, e)
+        earlier (suc k) h = r .good k (omega arith)
+    by Bad e r = record { within = omega arith; good = λ k h. absurd (omega arith); bad = λ h. e }

@@ -1,0 +1,21 @@
+-- `word::step_rule::in_plan` meets its contract.
+use borrow.Author.Tests.{ne-eqb}
+use borrow.Author.Needs.{needs}
+use Rattle.word.proofs.step_rule.in_plan.Statement.{statement}
+use Rattle.word.proofs.step_rule.in_plan.Tie as tie
+
+kind-number-requires : tie.Need-kind-number-requires
+kind-number-requires c κs = search needs
+
+within-requires : tie.Need-within-requires
+within-requires c κs = search needs
+
+returns : tie.Need-returns
+returns c = rw (← (c .before .kind-number .ensures), c .if1 .taken)
+
+returns-2 : tie.Need-returns-2
+returns-2 c =
+    rw (← (c .before .before .kind-number .ensures), ne-eqb _ 9 (c .before .if1 .left)) (c .within .ensures)
+
+pub in-plan-spec : {M : Type 1} → statement M
+in-plan-spec = tie.close (tie.spec kind-number-requires within-requires returns returns-2)

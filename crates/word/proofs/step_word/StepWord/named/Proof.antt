@@ -1,0 +1,49 @@
+-- `word::step_word::StepWord::named` meets its contract.
+use borrow.Author.Tests.{ne-eqb}
+use mathlib.Core.Path.{_≡_, sym, _∙_}
+use Rattle.word.specs.Word.{named, bit27}
+use borrow.Author.Needs.{needs}
+use Rattle.word.proofs.step_word.StepWord.named.Statement.{statement}
+use Rattle.word.proofs.step_word.StepWord.named.Tie as tie
+
+zero-bit-requires : tie.Need-zero-bit-requires
+zero-bit-requires c κs = search needs
+
+kind-requires : tie.Need-kind-requires
+kind-requires c κs = search needs
+
+d-requires : tie.Need-d-requires
+d-requires c κs = search needs
+
+a-requires : tie.Need-a-requires
+a-requires c κs = search needs
+
+b-requires : tie.Need-b-requires
+b-requires c κs = search needs
+
+row-requires : tie.Need-row-requires
+row-requires c κs = search needs
+
+returns : tie.Need-returns
+unfolding named
+returns c =
+    let w = c .before .before .before .before .before .before .before .args .self .bits in
+    let z : bit27 w ≡ 0 = sym (c .before .before .before .before .before .before .zero-bit .ensures) ∙ c .before .before .before .before .before .if1 .taken in
+    rw z (c .row .ensures ∙ cc)
+
+returns-2 : tie.Need-returns-2
+unfolding named
+returns-2 c = rw (ne-eqb _ 0 (rw (c .before .zero-bit .ensures) at (c .if1 .left)))
+
+pub named-spec : {M : Type 1} → statement M
+named-spec =
+    tie.close
+    (tie.spec
+    zero-bit-requires
+    kind-requires
+    d-requires
+    a-requires
+    b-requires
+    row-requires
+    returns
+    returns-2)

@@ -1,0 +1,24 @@
+-- `word::table::shr` meets its contract.
+use mathlib.Core.Path.{refl, sym}
+use native.Mathlib.Omega.{arith}
+use Rattle.bits.specs.Ops.{shrW}
+use Rattle.bits.proofs.Shift.{shr-width}
+use borrow.Author.Needs.{needs}
+use Rattle.word.proofs.table.shr.Statement.{statement}
+use Rattle.word.proofs.table.shr.Tie as tie
+
+cast-result : tie.Need-cast-result
+cast-result c = search needs
+
+shr-result : tie.Need-shr-result
+shr-result c = search needs
+
+returns : tie.Need-returns
+unfolding shrW
+returns c = refl
+
+returns-2 : tie.Need-returns-2
+returns-2 c = sym (shr-width _ _ (omega arith) (c .if1 .left))
+
+pub shr-spec : {M : Type 1} → statement M
+shr-spec = tie.close (tie.spec cast-result shr-result returns returns-2)

@@ -1,0 +1,45 @@
+-- Places and lengths, from document 01's sections "Step words" and "Translation for n shares": limits, share and scratch cells, and
+-- the words and tape words that a plan word of each kind translates to.
+use mathlib.Core.Bool.{cond}
+use Prim.Native.Nat.{ℕ, _+_, _-_, _*_, _/_}
+use lib.Dec.{eqb}
+
+-- "A plan has 0..2,048 words"; "A share program has 0..7,815,168 words"
+abbrev pub planMax : ℕ
+planMax = 2048
+
+abbrev pub programMax : ℕ
+programMax = 7815168
+
+-- "Share i of register r is cell 32i + r."
+abbrev pub cell : ℕ → ℕ → ℕ
+cell i r = 32 * i + r
+
+-- "y (cells 256 + i)", "z_i (cell 264 + i)", "t (cell 272)", "u (cell 273)"
+abbrev pub cellY : ℕ → ℕ
+cellY i = 256 + i
+
+abbrev pub cellZ : ℕ → ℕ
+cellZ i = 264 + i
+
+abbrev pub cellT : ℕ
+cellT = 272
+
+abbrev pub cellU : ℕ
+cellU = 273
+
+-- "share i of helper h (0..3) is cell 288 + 8i + h"
+abbrev pub helper : ℕ → ℕ → ℕ
+helper i h = 288 + 8 * i + h
+
+-- "Q = n(n−1)/2"
+abbrev pub pairCount : ℕ → ℕ
+pairCount n = n * (n - 1) / 2
+
+-- share words of a plan word by its kind: AND "5n² − 2n words", ADD "60n² − 3n words", others "Each n words"
+unfoldable pub lengthOf : ℕ → ℕ → ℕ
+lengthOf k n = cond (eqb k 3) (5 * (n * n) - 2 * n) (cond (eqb k 8) (60 * (n * n) - 3 * n) n)
+
+-- tape words likewise: AND "2Q tape words", ADD "24Q tape words", others "no tape"
+unfoldable pub tapeOf : ℕ → ℕ → ℕ
+tapeOf k n = cond (eqb k 3) (2 * pairCount n) (cond (eqb k 8) (24 * pairCount n) 0)

@@ -1,0 +1,8 @@
+// Step words, as document 01's section "Step words" has them: taking apart, putting together, checking, and the facts of the
+// word's own type. `specs/` has the definitions that the contracts cite.
+pub mod answer;
+pub mod check;
+pub mod step;
+pub mod step_rule;
+pub mod step_word;
+pub mod table;

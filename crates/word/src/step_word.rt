@@ -1,0 +1,196 @@
+// The step word's own type: its bit places, the cells and limits that go with it, and taking it apart and putting it together.
+ghost use mathlib.Core.Path.{_≡_};
+ghost use Rattle.word.specs.Word as spec;
+ghost use Rattle.word.specs.Word.{kindOf, bit27, fieldD, fieldA, fieldB, planStep, shareStep, wordOf};
+ghost use Rattle.word.specs.Layout as layout;
+use crate::step::Decoded;
+use crate::step::Step;
+use crate::step_rule::in_plan;
+use crate::step_rule::in_program;
+use crate::step_rule::put;
+use crate::step_rule::row;
+
+pub struct StepWord {
+    pub bits: u32,
+}
+
+impl StepWord {
+    // Bit places: bits 31..28 kind, bit 27 zero, bits 26..18 d, 17..9 a, 8..0 b.
+    pub const KIND_AT: u32 = 28;
+
+    pub const ZERO_AT: u32 = 27;
+
+    pub const D_AT: u32 = 18;
+
+    pub const A_AT: u32 = 9;
+    // The values that a field of nine bits can have.
+    pub const FIELD: u32 = 512;
+
+    // Limits of plans and share programs.
+    pub const PLAN_MAX: usize = 2048;
+
+    pub const PROGRAM_MAX: usize = 7815168;
+
+    pub const REGISTERS: usize = 32;
+
+    pub const CELLS: usize = 512;
+
+    // The scratch cells of AND: y and z have one for each share.
+    pub const Y: u16 = 256;
+
+    pub const Z: u16 = 264;
+
+    pub const T: u16 = 272;
+
+    pub const U: u16 = 273;
+    // The helper registers of ADD begin here.
+    pub const HELPERS: u16 = 288;
+
+    pub fn of(bits: u32) -> StepWord
+        ensures { λ r. ⌜ r .bits ≡ bits ⌝ }
+    {
+        StepWord { bits }
+    }
+
+    pub fn kind(self) -> u32
+        ensures { λ r. ⌜ r ≡ kindOf (self .bits) ⌝ }
+    {
+        self.bits >> StepWord::KIND_AT
+    }
+
+    pub fn zero_bit(self) -> u32
+        ensures { λ r. ⌜ r ≡ bit27 (self .bits) ⌝ }
+    {
+        (self.bits >> StepWord::ZERO_AT) % 2
+    }
+
+    pub fn d(self) -> u16
+        ensures { λ r. ⌜ r ≡ fieldD (self .bits) ⌝ }
+    {
+        ((self.bits >> StepWord::D_AT) % StepWord::FIELD) as u16
+    }
+
+    pub fn a(self) -> u16
+        ensures { λ r. ⌜ r ≡ fieldA (self .bits) ⌝ }
+    {
+        ((self.bits >> StepWord::A_AT) % StepWord::FIELD) as u16
+    }
+
+    pub fn b(self) -> u16
+        ensures { λ r. ⌜ r ≡ fieldB (self .bits) ⌝ }
+    {
+        (self.bits % StepWord::FIELD) as u16
+    }
+
+    // The step that the fields name, or Bad where bit 27 is set or the kind's row forbids it.
+    pub fn named(self) -> Decoded
+        ensures { λ r. ⌜ r ≡ spec.named (self .bits) ⌝ }
+    {
+        if self.zero_bit() == 0 {
+            row(self.kind(), self.d(), self.a(), self.b())
+        } else {
+            Decoded::Bad
+        }
+    }
+
+    // The step of a plan's word, or Bad.
+    pub fn plan_step(self) -> Decoded
+        ensures { λ r. ⌜ r ≡ planStep (self .bits) ⌝ }
+    {
+        let Decoded::Good(step) = self.named() else {
+            return Decoded::Bad;
+        };
+        if in_plan(step) {
+            Decoded::Good(step)
+        } else {
+            Decoded::Bad
+        }
+    }
+
+    // The step of a share program's word, or Bad.
+    pub fn share_step(self) -> Decoded
+        ensures { λ r. ⌜ r ≡ shareStep (self .bits) ⌝ }
+    {
+        let Decoded::Good(step) = self.named() else {
+            return Decoded::Bad;
+        };
+        if in_program(step) {
+            Decoded::Good(step)
+        } else {
+            Decoded::Bad
+        }
+    }
+
+    // The word of a step, each field kept to its nine bits.
+    pub fn of_step(s: Step) -> StepWord
+        ensures { λ r. ⌜ r .bits ≡ wordOf s ⌝ }
+    {
+        let bits = match s {
+            Step::Const { d, k } => put(1, d, ((k / 512) % 512) as u16, (k % 512) as u16),
+            Step::Xor { d, a, b } => put(2, d, a, b),
+            Step::And { d, a, b } => put(3, d, a, b),
+            Step::Not { d, a } => put(4, d, a, 0),
+            Step::Shl { d, a, b } => put(5, d, a, b),
+            Step::Shr { d, a, b } => put(6, d, a, b),
+            Step::Spread { d, a } => put(7, d, a, 0),
+            Step::Add { d, a, b } => put(8, d, a, b),
+            Step::Rand { d } => put(9, d, 0, 0),
+        };
+        StepWord { bits }
+    }
+
+    // Share i of register r.
+    pub fn cell(i: u8, r: u8) -> u16
+        ensures { λ c. ⌜ c ≡ layout.cell i r ⌝ }
+    {
+        32 * (i as u16) + (r as u16)
+    }
+
+    // Share i of helper register h.
+    pub fn helper(i: u8, h: u8) -> u16
+        ensures { λ c. ⌜ c ≡ layout.helper i h ⌝ }
+    {
+        StepWord::HELPERS + 8 * (i as u16) + (h as u16)
+    }
+
+    // Scratch cells y_i and z_i.
+    pub fn y(i: u8) -> u16
+        ensures { λ c. ⌜ c ≡ layout.cellY i ⌝ }
+    {
+        StepWord::Y + (i as u16)
+    }
+
+    pub fn z(i: u8) -> u16
+        ensures { λ c. ⌜ c ≡ layout.cellZ i ⌝ }
+    {
+        StepWord::Z + (i as u16)
+    }
+
+    // Share words that a plan word of this kind translates to for n shares.
+    pub fn length(kind: u32, n: u8) -> usize
+        ensures { λ r. ⌜ r ≡ layout.lengthOf kind n ⌝ }
+    {
+        let n = n as usize;
+        match kind {
+            3 => 5 * (n * n) - 2 * n,
+            8 => 60 * (n * n) - 3 * n,
+            _ => n,
+        }
+    }
+
+    // Tape words that a plan word of this kind uses for n shares.
+    pub fn tape(kind: u32, n: u8) -> usize
+        ensures { λ r. ⌜ r ≡ layout.tapeOf kind n ⌝ }
+    {
+        if n == 0 {
+            return 0;
+        }
+        let n = n as usize;
+        let pairs = n * (n - 1) / 2;
+        match kind {
+            3 => 2 * pairs,
+            8 => 24 * pairs,
+            _ => 0,
+        }
+    }
+}
