@@ -7,7 +7,7 @@ use Prim.Native.Nat.{ℕ, _+_, _-_, _*_, _/_, _%_, _^_, _<_}
 use native.Mathlib.Nat.{mod-eq-of-lt, div-add-mod', mul-add-mod-self-right}
 use native.Mathlib.Omega.{arith}
 use Rattle.bits.specs.Ops.{xorW, andW, shlW, addW}
-use Rattle.bits.specs.Adder.{Carry, round, rounds, entered, adder}
+use Rattle.bits.specs.Adder.{Carry, round, rounds, entered, adder, AdderAdds}
 use Rattle.bits.proofs.Xor.{xor-assoc, xor-zero, xor-cancel, and-zero, and-xor, and-assoc}
 use Rattle.bits.proofs.Shift.{shl-xor, shl-and, shl-shl, shl-width, shl-zero}
 use Rattle.bits.proofs.Bound.{xor-lt, add-lt}
@@ -59,10 +59,13 @@ module _ (a b : ℕ) (ha : a < 2 ^ 64) (hb : b < 2 ^ 64) where
       let c16 = round-carries K 16 (rounds (1 ∷ 2 ∷ 4 ∷ 8 ∷ []) (entered a b)) c8 in
       round-carries K 32 (rounds (1 ∷ 2 ∷ 4 ∷ 8 ∷ 16 ∷ []) (entered a b)) c16
 
-  -- "ADD: a + b modulo 2^64", by the masked adder's own steps
-  pub adder-sum : adder a b ≡ addW a b
+  sums : adder a b ≡ addW a b
   unfolding adder Carries C
-  adder-sum =
+  sums =
       let c : Carry = rounds (1 ∷ 2 ∷ 4 ∷ 8 ∷ 16 ∷ 32 ∷ []) (entered a b) in
       let e : c .G ≡ K = sym (through ∙ ap (λ (x : ℕ). xorW (c .G) (andW (c .P) x)) (shl-width K 0) ∙ ap (xorW (c .G)) (and-zero (c .P)) ∙ xor-zero (c .G)) in
       ap (λ (x : ℕ). xorW (xorW a b) (shlW x 1)) e ∙ ap (xorW (xorW a b)) up ∙ xor-cancel (xorW a b) (addW a b)
+
+-- "ADD: a + b modulo 2^64", by the masked adder's own steps
+pub adder-sum : AdderAdds
+adder-sum = sums

@@ -1,7 +1,8 @@
 -- Document 01's ADD on unsplit words: the helper registers H, G, P and T, step by step.
+use mathlib.Core.Path.{_≡_}
 use mathlib.Core.List.{List, [], _∷_}
-use Prim.Native.Nat.{ℕ}
-use Rattle.bits.specs.Ops.{xorW, andW, shlW}
+use Prim.Native.Nat.{ℕ, _^_, _<_}
+use Rattle.bits.specs.Ops.{xorW, andW, shlW, addW}
 
 -- helpers G and P; H stays as it is and T is spent within a round
 pub record Carry : Type 0 where
@@ -24,3 +25,7 @@ entered a b = record { G = andW a b; P = shlW (xorW a b) 0 }
 -- "For k = 1, 2, 4, 8, 16, 32: ..  Then T = G SHL 1; d = H XOR T."
 unfoldable pub adder : ℕ → ℕ → ℕ
 adder a b = xorW (xorW a b) (shlW (rounds (1 ∷ 2 ∷ 4 ∷ 8 ∷ 16 ∷ 32 ∷ []) (entered a b) .G) 1)
+
+-- what is proved of it: for all words it is the wrapping sum
+abbrev pub AdderAdds : Type 0
+AdderAdds = (a b : ℕ) → a < 2 ^ 64 → b < 2 ^ 64 → adder a b ≡ addW a b

@@ -6,7 +6,7 @@ use lib.ListN.{replicate, getD}
 use Rattle.bits.specs.Ops.{addW}
 use Rattle.word.specs.declared.step.Step.the-variants.{Const, Xor, Rand}
 use Rattle.word.specs.declared.step.Decoded.the-variants.{Good, Bad}
-use Rattle.word.specs.Word.{planStep, shareStep, named, row, wordOf, put}
+use Rattle.word.specs.Word.{planStep, programStep, named, row, wordOf, put}
 use Rattle.word.specs.Answers.{badAt}
 use Rattle.plain.specs.Machine.{stepped, run}
 use Rattle.plain.specs.Call.{plainAnswer, plainCells}
@@ -25,7 +25,7 @@ kind-zero : planStep 0x00080001 ≡ Bad
 unfolding named row
 kind-zero = refl
 
-rand-word : shareStep 0x90000000 ≡ Good (Rand 0)
+rand-word : programStep 0x90000000 ≡ Good (Rand 0)
 unfolding named row
 rand-word = refl
 

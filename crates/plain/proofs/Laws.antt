@@ -78,5 +78,9 @@ run-words : (plan cells : List ℕ) → ((r : ℕ) → getD cells r 0 < 2 ^ 64) 
 run-words [] cells h = h
 run-words (w ∷ ws) cells h = run-words ws (after (planStep w) cells) (after-words w cells h)
 
+run-good : (w : ℕ) (s : Step) (cells : List ℕ) → planStep w ≡ Good s → run (w ∷ []) cells ≡ set cells (dest s) (becomes s (λ c. getD cells c 0) 0)
+unfolding stepped
+run-good w s cells e = ap (λ (d : Decoded). after d cells) e
+
 pub laws : Laws
-laws = record { append = run-append; empty = λ cells. refl; size = run-size; words = run-words }
+laws = record { one = run-good; append = run-append; empty = λ cells. refl; size = run-size; words = run-words }

@@ -10,7 +10,7 @@ use lib.Seq.{drop-cons}
 use Rattle.word.specs.declared.step.Step.{Step}
 use Rattle.word.specs.declared.step.Decoded.{Decoded}
 use Rattle.word.specs.declared.step.Decoded.the-variants.{Good, Bad}
-use Rattle.word.specs.Answers.{firstOf, firstBad, FirstBad}
+use Rattle.word.specs.Answers.{firstOf, firstBad, FirstBad, FirstBadFound}
 
 module _ (step : ℕ → Decoded) (l : List ℕ) (i : ℕ) where
   -- what the loop keeps: no word before place i is bad
@@ -34,7 +34,7 @@ module _ (step : ℕ → Decoded) (l : List ℕ) (i : ℕ) where
   at-end h le = sym (h ∙ ap (λ (r : List ℕ). i + firstBad step r) (drop-of-length-le l le) ∙ add-zero i)
 
 -- the place is that of the first bad word, and the end only where there is none
-pub first-bad : (step : ℕ → Decoded) (l : List ℕ) → FirstBad step l (firstBad step l)
+pub first-bad : FirstBadFound
 first-bad step [] = record { within = omega arith; good = λ k h. absurd (omega arith); bad = λ h. absurd (omega arith) }
 first-bad step (w ∷ ws) = by (step w) refl (first-bad step ws)
   where

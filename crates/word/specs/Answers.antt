@@ -25,6 +25,9 @@ pub record FirstBad (step : ℕ → Decoded) (l : List ℕ) (place : ℕ) : Type
   pub good : (k : ℕ) → k < place → (s : Step) × (step (getD l k 0) ≡ Good s)
   pub bad : place < length l → step (getD l place 0) ≡ Bad
 
+abbrev pub FirstBadFound : Type 0
+FirstBadFound = (step : ℕ → Decoded) (l : List ℕ) → FirstBad step l (firstBad step l)
+
 -- "Every answer has the number (0 for done), a place (first bad word from 0 for number 3, else 0) and counts, zero when turned down."
 abbrev pub done : ℕ → ℕ → Answer
 done words tape = record { number = 0; place = 0; words = words; tape = tape }

@@ -27,7 +27,8 @@ abbrev pub either : Bool → Decoded → Decoded → Decoded
 either true s r = s
 either false s r = r
 
--- the table's rows: what kind k with fields d, a and b means ("k = 512·a + b, a number here"; "b = 0"; "a = b = 0")
+-- the table's rows: the step that kind k with fields d, a and b names ("k = 512·a + b, a number here"; "b = 0"; "a = b = 0"). Whether
+-- its cells and its shift number are in range is `within`'s to say.
 unfoldable pub row : ℕ → ℕ → ℕ → ℕ → Decoded
 row k d a b =
     either (eqb k 1) (Good (Const d (512 * a + b)))
@@ -72,6 +73,11 @@ inPlan s = not (eqb (kindNumber s) 9) && within 32 s
 abbrev pub inProgram : Step → Bool
 inProgram s = not (eqb (kindNumber s) 8) && within 512 s
 
+-- the rule of share programs (true) or of plans (false)
+abbrev pub ruleFor : Bool → Step → Bool
+ruleFor true = inProgram
+ruleFor false = inPlan
+
 -- "A word outside these rules is bad. Taking a word apart gives either its kind with its fields or the finding that it is bad"
 abbrev pub held : (Step → Bool) → Decoded → Decoded
 held rule (Good s) = either (rule s) (Good s) Bad
@@ -86,8 +92,8 @@ taken rule w = held rule (named w)
 abbrev pub planStep : ℕ → Decoded
 planStep w = taken inPlan w
 
-abbrev pub shareStep : ℕ → Decoded
-shareStep w = taken inProgram w
+abbrev pub programStep : ℕ → Decoded
+programStep w = taken inProgram w
 
 -- putting together: the kind keeps four bits and a field nine
 unfoldable pub put : ℕ → ℕ → ℕ → ℕ → ℕ

@@ -67,7 +67,7 @@ pub fn within(cells: u16, s: Step) -> bool
     }
 }
 
-// A word from its kind, at most 15, and its fields.
+// A word from its kind, kept to four bits, and its fields, kept to nine.
 pub fn put(k: u32, d: u16, a: u16, b: u16) -> u32
     ensures { λ r. ⌜ r ≡ spec.put k d a b ⌝ }
 {
@@ -102,7 +102,7 @@ pub fn in_plan(s: Step) -> bool
     }
 }
 
-// A share program's steps: kinds 1..7 and 9, any cells.
+// A share program's steps: kinds 1..7 and 9, cells 0..511.
 pub fn in_program(s: Step) -> bool
     ensures { λ r. ⌜ r ≡ spec.inProgram s ⌝ }
 {
@@ -111,4 +111,11 @@ pub fn in_program(s: Step) -> bool
     } else {
         within(512, s)
     }
+}
+
+// The rule of share programs or of plans.
+pub fn allowed(s: Step, program: bool) -> bool
+    ensures { λ r. ⌜ r ≡ spec.ruleFor program s ⌝ }
+{
+    if program { in_program(s) } else { in_plan(s) }
 }

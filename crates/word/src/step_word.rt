@@ -1,12 +1,11 @@
 // The step word's own type: its bit places, the cells and limits that go with it, and taking it apart and putting it together.
 ghost use mathlib.Core.Path.{_≡_};
 ghost use Rattle.word.specs.Word as spec;
-ghost use Rattle.word.specs.Word.{kindOf, bit27, fieldD, fieldA, fieldB, planStep, shareStep, wordOf};
+ghost use Rattle.word.specs.Word.{kindOf, bit27, fieldD, fieldA, fieldB, planStep, ruleFor, programStep, wordOf};
 ghost use Rattle.word.specs.Layout as layout;
 use crate::step::Decoded;
 use crate::step::Step;
-use crate::step_rule::in_plan;
-use crate::step_rule::in_program;
+use crate::step_rule::allowed;
 use crate::step_rule::put;
 use crate::step_rule::row;
 
@@ -82,7 +81,7 @@ impl StepWord {
         (self.bits % StepWord::FIELD) as u16
     }
 
-    // The step that the fields name, or Bad where bit 27 is set or the kind's row forbids it.
+    // The step that the fields name, before its ranges are looked at, or Bad where bit 27 or a field that must be 0 is set.
     pub fn named(self) -> Decoded
         ensures { λ r. ⌜ r ≡ spec.named (self .bits) ⌝ }
     {
@@ -93,32 +92,32 @@ impl StepWord {
         }
     }
 
-    // The step of a plan's word, or Bad.
-    pub fn plan_step(self) -> Decoded
-        ensures { λ r. ⌜ r ≡ planStep (self .bits) ⌝ }
+    // The step of a word of a share program or of a plan, or Bad.
+    pub fn step_in(self, program: bool) -> Decoded
+        ensures { λ r. ⌜ r ≡ spec.taken (ruleFor program) (self .bits) ⌝ }
     {
         let Decoded::Good(step) = self.named() else {
             return Decoded::Bad;
         };
-        if in_plan(step) {
+        if allowed(step, program) {
             Decoded::Good(step)
         } else {
             Decoded::Bad
         }
     }
 
-    // The step of a share program's word, or Bad.
-    pub fn share_step(self) -> Decoded
-        ensures { λ r. ⌜ r ≡ shareStep (self .bits) ⌝ }
+    // The step of a plan's word, or Bad.
+    pub fn plan_step(self) -> Decoded
+        ensures { λ r. ⌜ r ≡ planStep (self .bits) ⌝ }
     {
-        let Decoded::Good(step) = self.named() else {
-            return Decoded::Bad;
-        };
-        if in_program(step) {
-            Decoded::Good(step)
-        } else {
-            Decoded::Bad
-        }
+        self.step_in(false)
+    }
+
+    // The step of a share program's word, or Bad.
+    pub fn program_step(self) -> Decoded
+        ensures { λ r. ⌜ r ≡ programStep (self .bits) ⌝ }
+    {
+        self.step_in(true)
     }
 
     // The word of a step, each field kept to its nine bits.

@@ -1,0 +1,87 @@
+-- Demand 3, assembled: lists of share runs (InARow), joined results (Joined), counts (Counts) and secrecy (SecretRuns).
+use mathlib.Core.Path.{_≡_, refl, sym, ap, ap₂, _∙_}
+use mathlib.Core.List.{List}
+use Prim.Native.Nat.{ℕ, _+_, _-_, _≤_}
+use native.Mathlib.Nat.{add-zero, zero-add, add-left-cancel, le-trans, le-of-eq}
+use native.Mathlib.Omega.{arith}
+use lib.ListN.{length, take, drop, take-append-drop}
+use lib.Seq.{take-at}
+use Rattle.masking.specs.Translation.{program}
+use Rattle.masking.specs.Foretold.{Accepted, foretoldTape}
+use Rattle.masking.specs.Machine.{exec, rands, Words, Start}
+use Rattle.masking.specs.Unsplit.{joined}
+use Rattle.masking.specs.Runs.{State, due, runAnswer, inARow, wordsDone, tapeUsed}
+use Rattle.masking.specs.Demand3.{atStart, InARow, Demand3Holds}
+use Rattle.masking.proofs.emitted.Steps.{program-append, take-accepted}
+use Rattle.masking.proofs.emitted.Counts.{plan-counts}
+use Rattle.masking.proofs.joined.Cells.{drop-words}
+use Rattle.masking.proofs.joined.Plan.{joined-after}
+use Rattle.masking.proofs.InARow.{Reached, each-run, all-reached, place-sum, tape-sum, rands-take, due-rands, done-answer}
+use Rattle.masking.proofs.secret.SecretRuns.{secret}
+
+-- the words that translate a plan's first k words are the program's first
+first-words : (n : ℕ) (plan : List ℕ) (k m : ℕ) → m ≡ length (program n (take k plan)) → take m (program n plan) ≡ program n (take k plan)
+first-words n plan k m e =
+    ap₂ take e (ap (program n) (sym (take-append-drop k plan)) ∙ program-append n (take k plan) (drop k plan))
+    ∙ take-at (program n (take k plan)) (program n (drop k plan)) (length (program n (take k plan))) refl
+
+module _ (n : ℕ) (plan : List ℕ) (A : Accepted n plan) (start tape : List ℕ) (S : Start start) (p₀ : ℕ) (inside : p₀ ≤ length tape) where
+  abbrev P : List ℕ
+  P = program n plan
+
+  abbrev st₀ : State
+  st₀ = atStart n plan start tape p₀
+
+  abbrev Here : State → Type 0
+  Here = Reached P tape start p₀ (plan-counts n plan A .longest) (plan-counts n plan A .good)
+
+  at-start : Here st₀
+  at-start = record { within = omega arith; tapeAt = sym (add-zero p₀); inTape = inside; cells = refl; size = S .size }
+
+  reached : (budgets : List ℕ) → Here (inARow P tape st₀ budgets)
+  reached = all-reached P tape start p₀ (plan-counts n plan A .longest) (plan-counts n plan A .good) st₀ at-start
+
+  module _ (budgets : List ℕ) where
+    abbrev m : ℕ
+    m = wordsDone P tape st₀ budgets
+
+    at-m : inARow P tape st₀ budgets .place ≡ m
+    at-m = place-sum P tape st₀ budgets ∙ zero-add (wordsDone P tape st₀ budgets)
+
+    cells-are : inARow P tape st₀ budgets .cells ≡ exec (take m P) (drop p₀ tape) start
+    cells-are = reached budgets .cells ∙ ap (λ (k : ℕ). exec (take k P) (drop p₀ tape) start) at-m
+
+    used-are : tapeUsed P tape st₀ budgets ≡ rands (take m P)
+    used-are =
+        add-left-cancel p₀ (sym (tape-sum P tape st₀ budgets) ∙ reached budgets .tapeAt ∙ ap (λ (k : ℕ). p₀ + rands (take k P)) at-m)
+
+  -- over a tape as long as foretold there is always enough left
+  enough : foretoldTape n plan ≤ length tape - p₀ → (before : List ℕ) (b : ℕ) → runAnswer P tape (inARow P tape st₀ before) b .number ≡ 0
+  enough h before b =
+      let st = inARow P tape st₀ before in
+      let r = reached before in
+      let l : rands (take (st .place + length (due P (st .place) b)) P) ≤ foretoldTape n plan =
+      le-trans (rands-take P (st .place + length (due P (st .place) b))) (le-of-eq (plan-counts n plan A .tape)) in
+      ap (λ a. a .number) (done-answer P tape start p₀ (plan-counts n plan A .longest) (plan-counts n plan A .good) st r b
+      (omega (arith, due-rands P (st .place) b, r .tapeAt, l)))
+
+  in-a-row : Words tape → (budgets : List ℕ) → InARow n plan start tape p₀ budgets
+  in-a-row W budgets =
+      record {
+        each = λ before rest b e. each-run P tape start p₀ (plan-counts n plan A .longest) (plan-counts n plan A .good) (inARow P tape st₀ before) (reached before) b;
+        cells = cells-are budgets;
+        used = used-are budgets;
+        place = at-m budgets;
+        tapeMoved = tape-sum P tape st₀ budgets;
+        joins = λ k e r l. ap (λ c. joined n c r) (cells-are budgets ∙ ap (λ ws. exec ws (drop p₀ tape) start) (first-words n plan k (m budgets) e)) ∙ joined-after n plan A start (drop p₀ tape) (S .size) (S .words) (drop-words tape W p₀) k r l;
+        foretold = λ k e. used-are budgets ∙ ap rands (first-words n plan k (m budgets) e) ∙ plan-counts n (take k plan) (take-accepted n plan A k) .tape;
+        enough = λ h before rest b e. enough h before b;
+      }
+
+-- THE THEOREM
+pub demand3 : Demand3Holds
+demand3 n plan A =
+    record {
+      runs = λ start tape S W p₀ inside budgets. in-a-row n plan A start tape S p₀ inside W budgets;
+      secret = secret n plan A (λ start tape S p₀ inside budgets. cells-are n plan A start tape S p₀ inside budgets);
+    }

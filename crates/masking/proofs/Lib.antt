@@ -1,0 +1,8 @@
+-- Worked examples (Examples). Share programs proved, each part over those above it: what a translation emits (emitted), what it computes joined (joined), what its
+-- steps hide (secret), share runs in a row (InARow), and demand 3, which puts them together (Demand3).
+mod Examples
+pub mod emitted
+pub mod joined
+pub mod secret
+pub mod InARow
+pub mod Demand3

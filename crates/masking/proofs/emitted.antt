@@ -1,0 +1,9 @@
+-- What a translation emits: tests over steps (Tests), pairs of shares (Pairs), where cells lie (Places), what holds of every share step
+-- (Ranges, Good), words as steps (Steps), and the counts (Counts).
+pub mod Tests
+pub mod Pairs
+pub mod Places
+pub mod Ranges
+pub mod Good
+pub mod Steps
+pub mod Counts

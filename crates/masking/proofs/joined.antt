@@ -1,0 +1,12 @@
+-- What a translation computes joined: cells as a function (Cells), runs over any tape (After), exclusive-ors over shares (Sums), a step
+-- once per share (Once), AND by its parts (Refresh, Products, And), blocks against the unsplit machine (Blocks), ADD (Add), and plans (Plan).
+pub mod Cells
+pub mod After
+pub mod Sums
+pub mod Once
+pub mod Refresh
+pub mod Products
+pub mod And
+pub mod Blocks
+pub mod Add
+pub mod Plan

@@ -1,0 +1,58 @@
+-- What document 01's section "Translation for n shares" says of lengths, tape words and cells.
+use mathlib.Core.Path.{_≡_}
+use mathlib.Core.Bool.{Bool, true, false, _&&_, _||_}
+use mathlib.Core.List.{List, [], _∷_}
+use Prim.Native.Nat.{ℕ, _*_, _+_, _-_, _%_, _≤_, _<_}
+use lib.Dec.{T, ltb, leb}
+use lib.ListN.{length}
+use Rattle.word.specs.declared.step.Step.{Step}
+use Rattle.word.specs.declared.step.Step.the-variants.{Const, Xor, And, Not, Shl, Shr, Spread, Add, Rand}
+use Rattle.word.specs.Word.{planStep, programStep, inPlan, inProgram, kindNumber}
+use Rattle.word.specs.Layout.{lengthOf, tapeOf, programMax}
+use Rattle.word.specs.Answers.{firstBad}
+use Rattle.masking.specs.Translation.{translated, program}
+use Rattle.masking.specs.Foretold.{Accepted, foretoldWords, foretoldTape}
+use Rattle.masking.specs.Machine.{randsOf, rands}
+
+-- a cell that translations for n shares name: a share of a register, scratch y or z of a share, t, u, or a share of one of the four helpers
+abbrev pub usedCell : ℕ → ℕ → Bool
+usedCell n c =
+    ltb c (32 * n)
+    || (leb 256 c && ltb c (256 + n)
+    || (leb 264 c && ltb c (264 + n)
+    || (leb 272 c && ltb c 274
+    || (leb 288 c && (ltb c (288 + 8 * n) && ltb ((c - 288) % 8) 4)))))
+
+-- all cells that a step names are such cells
+abbrev pub naming : (ℕ → Bool) → Step → Bool
+naming p (Const d k) = p d
+naming p (Xor d a b) = p d && (p a && p b)
+naming p (And d a b) = p d && (p a && p b)
+naming p (Not d a) = p d && p a
+naming p (Shl d a b) = p d && p a
+naming p (Shr d a b) = p d && p a
+naming p (Spread d a) = p d && p a
+naming p (Add d a b) = p d && (p a && p b)
+naming p (Rand d) = p d
+
+abbrev pub allOf : (Step → Bool) → List Step → Bool
+allOf p [] = true
+allOf p (s ∷ ss) = p s && allOf p ss
+
+-- one plan step's translation for n shares
+pub record StepCounts (n : ℕ) (s : Step) : Type 0 where
+  pub words : length (translated n s) ≡ lengthOf (kindNumber s) n
+  pub tape : randsOf (translated n s) ≡ tapeOf (kindNumber s) n
+  pub good : T (allOf inProgram (translated n s))
+  pub cells : T (allOf (naming (usedCell n)) (translated n s))
+
+-- a plan's share program
+pub record PlanCounts (n : ℕ) (plan : List ℕ) : Type 0 where
+  pub words : length (program n plan) ≡ foretoldWords n plan
+  pub tape : rands (program n plan) ≡ foretoldTape n plan
+  pub good : firstBad programStep (program n plan) ≡ length (program n plan)
+  pub longest : length (program n plan) ≤ programMax
+
+pub record Counts : Type 0 where
+  pub step : (n : ℕ) → 2 ≤ n → n ≤ 8 → (s : Step) → T (inPlan s) → StepCounts n s
+  pub plan : (n : ℕ) (plan : List ℕ) → Accepted n plan → PlanCounts n plan

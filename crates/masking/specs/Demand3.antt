@@ -1,0 +1,62 @@
+-- Demand 3: "All this is one theorem about the list as a whole" (document 01, "Share runs in a row"). It starts from a plan that Translate
+-- accepts for n, the program being just the words of its translation, any 512 cells, program place 0, and any tape with any place up to
+-- its length.
+use mathlib.Core.Path.{_≡_}
+use mathlib.Core.List.{List, [], _∷_, _++_}
+use Prim.Native.Nat.{ℕ, _+_, _-_, _≤_, _<_, min}
+use lib.ListN.{length, getD, take, drop}
+use Rattle.word.specs.declared.answer.Answer.{Answer}
+use Rattle.word.specs.Answers.{done, refused}
+use Rattle.plain.specs.Machine.{run}
+use Rattle.masking.specs.Translation.{program}
+use Rattle.masking.specs.Foretold.{Accepted, foretoldTape}
+use Rattle.masking.specs.Machine.{exec, rands, Words}
+use Rattle.masking.specs.Unsplit.{joined, unsplit}
+use Rattle.masking.specs.Runs.{State, due, runAnswer, moved, inARow, wordsDone, tapeUsed}
+use Rattle.masking.specs.Secrecy.{Secret}
+use Rattle.masking.specs.Machine.{Start}
+
+-- one run from where the last one left off: "turned down exactly when its steps hold more RAND than tape remains (6), and then moves
+-- nothing; otherwise it does the smaller of its budget and the words left, and reports just that"
+pub record EachRun (words tape : List ℕ) (st : State) (budget : ℕ) : Type 0 where
+  pub short : length tape - st .tapePlace < rands (due words (st .place) budget)
+      → (runAnswer words tape st budget ≡ refused 6) × (moved words tape st budget ≡ st)
+  pub else : rands (due words (st .place) budget) ≤ length tape - st .tapePlace
+      → runAnswer words tape st budget ≡ done (min budget (length words - st .place)) (rands (due words (st .place) budget))
+
+-- a list of runs, one for each budget, over the tape from its place on
+module _ (n : ℕ) (plan start tape : List ℕ) (tapePlace : ℕ) where
+  abbrev pub atStart : State
+  atStart = record { cells = start; place = 0; tapePlace = tapePlace }
+
+  pub record InARow (budgets : List ℕ) : Type 0 where
+    -- each run of the list
+    pub each : (before rest : List ℕ) (b : ℕ) → budgets ≡ before ++ (b ∷ rest)
+        → EachRun (program n plan) tape (inARow (program n plan) tape atStart before) b
+    -- "After the list the cells are what the first m words make of the start, m the sum of the words done; the tape words used are the
+    -- RANDs among those m."
+    pub cells : inARow (program n plan) tape atStart budgets .cells
+        ≡ exec (take (wordsDone (program n plan) tape atStart budgets) (program n plan)) (drop tapePlace tape) start
+    pub used : tapeUsed (program n plan) tape atStart budgets ≡ rands (take (wordsDone (program n plan) tape atStart budgets) (program n plan))
+    -- the places moved on by just these sums
+    pub place : inARow (program n plan) tape atStart budgets .place ≡ wordsDone (program n plan) tape atStart budgets
+    pub tapeMoved : inARow (program n plan) tape atStart budgets .tapePlace ≡ tapePlace + tapeUsed (program n plan) tape atStart budgets
+    -- where the words done translate the plan's first k words, every register joins to what those k words give unsplit, and the tape
+    -- words used are those foretold for them
+    pub joins : (k : ℕ) → wordsDone (program n plan) tape atStart budgets ≡ length (program n (take k plan))
+        → (r : ℕ) → r < 32 → joined n (inARow (program n plan) tape atStart budgets .cells) r ≡ getD (run (take k plan) (unsplit n start)) r 0
+    pub foretold : (k : ℕ) → wordsDone (program n plan) tape atStart budgets ≡ length (program n (take k plan))
+        → tapeUsed (program n plan) tape atStart budgets ≡ foretoldTape n (take k plan)
+    -- over a tape as long as foretold no run is turned down
+    pub enough : foretoldTape n plan ≤ length tape - tapePlace
+        → (before rest : List ℕ) (b : ℕ) → budgets ≡ before ++ (b ∷ rest)
+        → runAnswer (program n plan) tape (inARow (program n plan) tape atStart before) b .number ≡ 0
+
+pub record Demand3 (n : ℕ) (plan : List ℕ) : Type 0 where
+  pub runs : (start tape : List ℕ) → Start start → Words tape → (tapePlace : ℕ) → tapePlace ≤ length tape
+      → (budgets : List ℕ) → InARow n plan start tape tapePlace budgets
+  pub secret : (s : ℕ) → s < length (program n plan) → Secret n plan s
+
+-- the theorem
+abbrev pub Demand3Holds : Type 0
+Demand3Holds = (n : ℕ) (plan : List ℕ) → Accepted n plan → Demand3 n plan

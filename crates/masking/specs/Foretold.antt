@@ -1,0 +1,23 @@
+-- The counts foretold for a plan by its words' kinds: "2Q for each AND among them and 24Q for each ADD", and the share words likewise.
+use mathlib.Core.List.{List, [], _∷_}
+use Prim.Native.Nat.{ℕ, _+_, _≤_}
+use mathlib.Core.Path.{_≡_}
+use lib.ListN.{length}
+use Rattle.word.specs.Word.{planStep, kindOf}
+use Rattle.word.specs.Layout.{lengthOf, tapeOf, planMax}
+use Rattle.word.specs.Answers.{firstBad}
+
+abbrev pub foretoldWords : ℕ → List ℕ → ℕ
+foretoldWords n [] = 0
+foretoldWords n (w ∷ ws) = lengthOf (kindOf w) n + foretoldWords n ws
+
+abbrev pub foretoldTape : ℕ → List ℕ → ℕ
+foretoldTape n [] = 0
+foretoldTape n (w ∷ ws) = tapeOf (kindOf w) n + foretoldTape n ws
+
+-- "a plan that Translate accepts for n": the share count is 2..8, the plan not too long and without a bad word
+pub record Accepted (n : ℕ) (plan : List ℕ) : Type 0 where
+  pub least : 2 ≤ n
+  pub most : n ≤ 8
+  pub short : length plan ≤ planMax
+  pub good : firstBad planStep plan ≡ length plan

@@ -1,0 +1,10 @@
+-- Share programs: the translation (Translation), the counts foretold (Foretold), the share machine (Machine), share runs in a row
+-- (Runs), the unsplit machine (Unsplit), and the statements proved of them: counts (Counts), secrecy (Secrecy), demand 3 (Demand3).
+pub mod Translation
+pub mod Foretold
+pub mod Machine
+pub mod Runs
+pub mod Unsplit
+pub mod Counts
+pub mod Secrecy
+pub mod Demand3

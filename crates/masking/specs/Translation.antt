@@ -1,0 +1,157 @@
+-- Document 01's section "Translation for n shares", in its order. "Steps below stand in emission order, shares rising from 0, pairs
+-- i < j by i and then j."
+use mathlib.Core.Bool.{cond}
+use mathlib.Core.List.{List, [], _∷_, _++_, map}
+use Prim.Native.Nat.{ℕ, zero, suc, _+_, _-_, _*_}
+use lib.Dec.{ltb}
+use Rattle.word.specs.declared.step.Step.{Step}
+use Rattle.word.specs.declared.step.Step.the-variants.{Const, Xor, And, Not, Shl, Shr, Spread, Add, Rand}
+use Rattle.word.specs.declared.step.Decoded.{Decoded}
+use Rattle.word.specs.declared.step.Decoded.the-variants.{Good, Bad}
+use Rattle.word.specs.Word.{planStep, wordOf}
+use Rattle.word.specs.Layout.{cell, cellY, cellZ, cellT, cellU, helper}
+
+-- c numbers from s on
+abbrev pub upFrom : ℕ → ℕ → List ℕ
+upFrom s zero = []
+upFrom s (suc c) = s ∷ upFrom (suc s) c
+
+-- the shares, rising from 0
+abbrev pub shares : ℕ → List ℕ
+shares n = upFrom 0 n
+
+pub record Pair : Type 0 where
+  pub lo : ℕ
+  pub hi : ℕ
+
+-- pairs i < j, by i and then j
+abbrev pub pairsOf : ℕ → List ℕ → List Pair
+pairsOf i [] = []
+pairsOf i (j ∷ js) = record { lo = i; hi = j } ∷ pairsOf i js
+
+abbrev pub pairs : List ℕ → List Pair
+pairs [] = []
+pairs (i ∷ is) = pairsOf i is ++ pairs is
+
+-- "Share i of register r is cell 32i + r." ADD's helper h of 0..3 is register 32 + h here, so that its share i is cell 288 + 8i + h.
+unfoldable pub shareCell : ℕ → ℕ → ℕ
+shareCell i r = cond (ltb r 32) (cell i r) (helper i (r - 32))
+
+-- a step of share 0, and one of the others
+abbrev pub firstOther : ℕ → Step → Step → Step
+firstOther zero s o = s
+firstOther (suc i) s o = o
+
+-- the scratch cells of AND
+pub record Scratch : Type 0 where
+  pub y : ℕ → ℕ
+  pub z : ℕ → ℕ
+  pub t : ℕ
+  pub u : ℕ
+
+-- "y (cells 256 + i)", "z_i (cell 264 + i)", "t (cell 272)", "u (cell 273)"
+abbrev pub scratch : Scratch
+scratch = record { y = cellY; z = cellZ; t = cellT; u = cellU }
+
+-- "For each pair: RAND t (cell 272); y_i XOR t; y_j XOR t."
+abbrev pub refresh : Scratch → List Pair → List Step
+refresh c [] = []
+refresh c (p ∷ ps) = Rand (c .t) ∷ Xor (c .y (p .lo)) (c .y (p .lo)) (c .t) ∷ Xor (c .y (p .hi)) (c .y (p .hi)) (c .t) ∷ refresh c ps
+
+-- "for each pair: RAND t; z_i XOR t; u (cell 273) = a_i AND y_j; t XOR u; u = a_j AND y_i; t XOR u; z_j XOR t"
+abbrev pub products : Scratch → ℕ → List Pair → List Step
+products c a [] = []
+products c a (p ∷ ps) =
+    Rand (c .t)
+    ∷ Xor (c .z (p .lo)) (c .z (p .lo)) (c .t)
+    ∷ And (c .u) (shareCell (p .lo) a) (c .y (p .hi))
+    ∷ Xor (c .t) (c .t) (c .u)
+    ∷ And (c .u) (shareCell (p .hi) a) (c .y (p .lo))
+    ∷ Xor (c .t) (c .t) (c .u)
+    ∷ Xor (c .z (p .hi)) (c .z (p .hi)) (c .t)
+    ∷ products c a ps
+
+-- "AND .. : copy b's shares to y .. Last, copy z to d." ("a copy is SHL 0")
+unfoldable pub andBlock : Scratch → ℕ → ℕ → ℕ → ℕ → List Step
+andBlock c n d a b =
+    map (λ i. Shl (c .y i) (shareCell i b) 0) (shares n)
+    ++ (refresh c (pairs (shares n))
+    ++ (map (λ i. And (c .z i) (shareCell i a) (c .y i)) (shares n)
+    ++ (products c a (pairs (shares n))
+    ++ map (λ i. Shl (shareCell i d) (c .z i) 0) (shares n))))
+
+-- the share steps of one step on registers. "CONST: share 0 gets k, the others 0. NOT: share 0 inverted, the others copied by SHL 0.
+-- XOR, SHL, SHR, SPREAD: once per share." ADD is laid out by `adding` first.
+abbrev pub block : Scratch → ℕ → Step → List Step
+block c n (Const d k) = map (λ i. firstOther i (Const (shareCell i d) k) (Const (shareCell i d) 0)) (shares n)
+block c n (Xor d a b) = map (λ i. Xor (shareCell i d) (shareCell i a) (shareCell i b)) (shares n)
+block c n (And d a b) = andBlock c n d a b
+block c n (Not d a) = map (λ i. firstOther i (Not (shareCell i d) (shareCell i a)) (Shl (shareCell i d) (shareCell i a) 0)) (shares n)
+block c n (Shl d a b) = map (λ i. Shl (shareCell i d) (shareCell i a) b) (shares n)
+block c n (Shr d a b) = map (λ i. Shr (shareCell i d) (shareCell i a) b) (shares n)
+block c n (Spread d a) = map (λ i. Spread (shareCell i d) (shareCell i a)) (shares n)
+block c n (Add d a b) = []
+block c n (Rand d) = []
+
+-- "helper registers H, G, P, T"
+abbrev pub rH : ℕ
+rH = 32
+
+abbrev pub rG : ℕ
+rG = 33
+
+abbrev pub rP : ℕ
+rP = 34
+
+abbrev pub rT : ℕ
+rT = 35
+
+-- "T = G SHL k; T = P AND T; G = G XOR T"
+abbrev pub generated : ℕ → List Step
+generated k = Shl rT rG k ∷ And rT rP rT ∷ Xor rG rG rT ∷ []
+
+-- "T = P SHL k; P = P AND T"
+abbrev pub passed : ℕ → List Step
+passed k = Shl rT rP k ∷ And rP rP rT ∷ []
+
+-- "ADD: .. H = a XOR b; G = a AND b; P = H by SHL 0. For k = 1, 2, 4, 8, 16, 32: .. and, except after 32, .. Then T = G SHL 1;
+-- d = H XOR T."
+unfoldable pub adding : ℕ → ℕ → ℕ → List Step
+adding d a b =
+    (Xor rH a b ∷ And rG a b ∷ Shl rP rH 0 ∷ [])
+    ++ (generated 1 ++ (passed 1
+    ++ (generated 2 ++ (passed 2
+    ++ (generated 4 ++ (passed 4
+    ++ (generated 8 ++ (passed 8
+    ++ (generated 16 ++ (passed 16
+    ++ (generated 32
+    ++ (Shl rT rG 1 ∷ Xor d rH rT ∷ []))))))))))))
+
+-- a plan's step as steps on registers
+abbrev pub laidOut : Step → List Step
+laidOut (Const d k) = Const d k ∷ []
+laidOut (Xor d a b) = Xor d a b ∷ []
+laidOut (And d a b) = And d a b ∷ []
+laidOut (Not d a) = Not d a ∷ []
+laidOut (Shl d a b) = Shl d a b ∷ []
+laidOut (Shr d a b) = Shr d a b ∷ []
+laidOut (Spread d a) = Spread d a ∷ []
+laidOut (Add d a b) = adding d a b
+laidOut (Rand d) = []
+
+abbrev pub blocks : Scratch → ℕ → List Step → List Step
+blocks c n [] = []
+blocks c n (s ∷ ss) = block c n s ++ blocks c n ss
+
+-- the share steps of a plan's step
+unfoldable pub translated : ℕ → Step → List Step
+translated n s = blocks scratch n (laidOut s)
+
+abbrev pub wordsFor : ℕ → Decoded → List ℕ
+wordsFor n (Good s) = map wordOf (translated n s)
+wordsFor n Bad = []
+
+-- the share program of a plan: "Each plan word's translation .. begins where the last one ended."
+abbrev pub program : ℕ → List ℕ → List ℕ
+program n [] = []
+program n (w ∷ ws) = wordsFor n (planStep w) ++ program n ws
