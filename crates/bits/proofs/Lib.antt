@@ -4,5 +4,7 @@ pub mod Xor
 pub mod Shift
 pub mod Bound
 pub mod Choice
+pub mod Places
+pub mod Parity
 pub mod Sum
 pub mod Adder

@@ -1,0 +1,33 @@
+-- Agreement with IEEE 754, as statements. `mul`, `add`, `ofBits` and `toBits` at `binary64` are the toolchain library's own IEEE 754 operations.
+-- Document 01 departs from IEEE 754 in subnormal numbers and in infinities and NaN; wherever both apply they agree, overflow to E = 2047, F = 0 (an infinity there) and the signs of zeros included.
+use mathlib.Core.Path.{_≡_}
+use mathlib.Core.Logic.{_⊎_}
+use mathlib.Core.Bool.{cond}
+use Prim.Native.Nat.{ℕ, _+_, _-_, _*_, _^_, _≤_, _<_}
+use lib.Dec.{eqb}
+use lib.Ieee.{binary64, ofBits, toBits, mul, add}
+use Rattle.binary64.specs.Number.{sign, expo, frac, magnitude}
+use Rattle.binary64.specs.Product.{product}
+use Rattle.binary64.specs.Sum.{sum}
+
+-- an operand that both read alike: a zero, or a normal number
+abbrev pub ZeroOrNormal : ℕ → Type 0
+ZeroOrNormal a = ((expo a ≡ 0) × (frac a ≡ 0)) ⊎ ((1 ≤ expo a) × (expo a ≤ 2046))
+
+-- an exact result that both round alike: zero, or not below 2^-1022, which is 2^u units
+abbrev pub ZeroOrLarge : ℕ → ℕ → Type 0
+ZeroOrLarge u M = (M ≡ 0) ⊎ (2 ^ u ≤ M)
+
+-- the magnitude of the exact sum, in units of 2^-1074
+abbrev pub exactSum : ℕ → ℕ → ℕ
+exactSum a b = cond (eqb (sign a) (sign b)) (magnitude a + magnitude b) ((magnitude a - magnitude b) + (magnitude b - magnitude a))
+
+abbrev pub ProductIsIeee : Type 0
+ProductIsIeee =
+    (a b : ℕ) → a < 2 ^ 64 → b < 2 ^ 64 → ZeroOrNormal a → ZeroOrNormal b → ZeroOrLarge 1126 (magnitude a * magnitude b)
+    → product a b ≡ toBits binary64 (mul binary64 (ofBits binary64 a) (ofBits binary64 b))
+
+abbrev pub SumIsIeee : Type 0
+SumIsIeee =
+    (a b : ℕ) → a < 2 ^ 64 → b < 2 ^ 64 → ZeroOrNormal a → ZeroOrNormal b → ZeroOrLarge 52 (exactSum a b)
+    → sum a b ≡ toBits binary64 (add binary64 (ofBits binary64 a) (ofBits binary64 b))

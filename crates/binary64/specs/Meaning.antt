@@ -1,0 +1,44 @@
+-- The definitions mean what document 01 says: rounding is to the nearest with ties to even, and floor is the greatest whole number not above. As statements.
+use mathlib.Core.Path.{_≡_}
+use Prim.Native.Nat.{ℕ, suc, _+_, _-_, _*_, _%_, _^_, _≤_, _<_}
+use lib.Ieee.{size}
+use Rattle.binary64.specs.Number.{sign, magnitude}
+use Rattle.binary64.specs.Rounding.{significand, magBits}
+use Rattle.binary64.specs.Floor.{floor}
+
+abbrev pub distance : ℕ → ℕ → ℕ
+distance a b = (a - b) + (b - a)
+
+-- no multiple of 2^e is nearer to M than q · 2^e, and where another one is as near, q is even
+pub record NearestEven (M e q : ℕ) : Type 0 where
+  pub nearest : (k : ℕ) → distance M (q * 2 ^ e) ≤ distance M (k * 2 ^ e)
+  pub even : (k : ℕ) → (k ≡ q → ⊥) → distance M (k * 2 ^ e) ≡ distance M (q * 2 ^ e) → q % 2 ≡ 0
+
+-- "rounded to 53 significant bits, nearest, ties to even": the unit leaves 53 bits of M, q is nearest,
+-- and the answer r, unless it is the limit E = 2047, F = 0, reads as q units. 2^u of M's units make 2^-1022; a word's magnitude is in units of 2^-1074.
+pub record Rounded (u M r : ℕ) : Type 0 where
+  pub kept-low : 2 ^ 52 * 2 ^ (size M - 53) ≤ M
+  pub kept-high : M < 2 ^ 53 * 2 ^ (size M - 53)
+  pub nearest : NearestEven M (size M - 53) (significand M)
+  pub reads : r < 2047 * 2 ^ 52 → magnitude r * 2 ^ (u - 52) ≡ significand M * 2 ^ (size M - 53)
+
+abbrev pub RoundingMeans : Type 0
+RoundingMeans = (u M : ℕ) → 52 ≤ u → 2 ^ u ≤ M → Rounded u M (magBits u M)
+
+-- r is a whole number, `whole` in magnitude, of a's sign; a lies from it up to its upper neighbour, that one left out
+pub record GreatestWhole (a r : ℕ) : Type 0 where
+  pub whole : ℕ
+  pub reads : magnitude r ≡ whole * 2 ^ 1074
+  pub sign-kept : sign r ≡ sign a
+  pub plus : sign a ≡ 0 → (whole * 2 ^ 1074 ≤ magnitude a) × (magnitude a < suc whole * 2 ^ 1074)
+  pub minus : sign a ≡ 1 → (magnitude a ≤ whole * 2 ^ 1074) × (0 < whole) × ((whole - 1) * 2 ^ 1074 < magnitude a)
+
+-- "the greatest whole number not above the operand", for every operand but minus zero
+abbrev pub FloorMeans : Type 0
+FloorMeans = (a : ℕ) → a < 2 ^ 64 → (sign a ≡ 1 → magnitude a ≡ 0 → ⊥) → GreatestWhole a (floor a)
+
+-- "−1 for s = 1, minus zero among them": the word for -1, and what minus zero gives
+abbrev pub FloorMinusZero : Type 0
+FloorMinusZero =
+    (sign 0xBFF0000000000000 ≡ 1) × (magnitude 0xBFF0000000000000 ≡ 1 * 2 ^ 1074)
+    × ((a : ℕ) → a < 2 ^ 64 → sign a ≡ 1 → magnitude a ≡ 0 → floor a ≡ 0xBFF0000000000000)

@@ -1,0 +1,25 @@
+-- `plans::sum_table::word` meets its contract: the table is the plan's words, by computation.
+use mathlib.Core.Path.{refl, sym}
+use lib.ListN.{List·getD-eq-default}
+use borrow.Author.Needs.{needs}
+use Rattle.word.specs.Word.{put}
+use Rattle.plans.specs.SumPlan.{sumPlan, orderSteps, significandSteps, shiftRight, smallShifts, shiftKeeping, largeShifts, allZero16, lostSteps, alignTests, alignSteps, addSteps, smearStage, smearSteps, shiftLeft, normaliseSteps, exponentSteps, resultTests, roundSteps, chooseSteps, alignPart, normalPart, resultPart, sumSteps}
+use Rattle.plans.proofs.sum_table.word.Statement.{statement}
+use Rattle.plans.proofs.sum_table.word.Tie as tie
+
+mul-result : tie.Need-mul-result
+mul-result c = search needs
+
+array-read-result : tie.Need-array-read-result
+array-read-result c = search needs
+
+returns : tie.Need-returns
+unfolding sumPlan orderSteps significandSteps shiftRight smallShifts shiftKeeping largeShifts allZero16 lostSteps alignTests alignSteps addSteps smearStage smearSteps shiftLeft normaliseSteps exponentSteps resultTests roundSteps chooseSteps alignPart normalPart resultPart sumSteps put
+returns c = refl
+
+returns-2 : tie.Need-returns-2
+unfolding sumPlan orderSteps significandSteps shiftRight smallShifts shiftKeeping largeShifts allZero16 lostSteps alignTests alignSteps addSteps smearStage smearSteps shiftLeft normaliseSteps exponentSteps resultTests roundSteps chooseSteps alignPart normalPart resultPart sumSteps
+returns-2 c = sym (List·getD-eq-default sumPlan 0 (c .if1 .left))
+
+pub word-spec : {M : Type 1} → statement M
+word-spec = tie.close (tie.spec mul-result array-read-result returns returns-2)

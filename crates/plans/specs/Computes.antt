@@ -1,0 +1,16 @@
+-- What holds of a built-in plan, whose words document 01 leaves free: "at most 2,048 words, none bad, the operation's result in register 2".
+use mathlib.Core.Path.{_≡_}
+use mathlib.Core.List.{List}
+use Prim.Native.Nat.{ℕ, _^_, _≤_, _<_}
+use lib.ListN.{length, getD}
+use Rattle.word.specs.Word.{planStep}
+use Rattle.word.specs.Layout.{planMax}
+use Rattle.word.specs.Answers.{firstBad}
+use Rattle.plain.specs.Machine.{run}
+
+-- "with operands in registers 0 and 1 and the result in 2", whatever the other registers hold at the start
+pub record Computes (plan : List ℕ) (op : ℕ → ℕ → ℕ) : Type 0 where
+  pub short : length plan ≤ planMax
+  pub none-bad : firstBad planStep plan ≡ length plan
+  pub result : (cells : List ℕ) → length cells ≡ 32 → ((r : ℕ) → getD cells r 0 < 2 ^ 64)
+      → getD (run plan cells) 2 0 ≡ op (getD cells 0 0) (getD cells 1 0)

@@ -1,0 +1,10 @@
+-- What holds of a built-in plan (Computes); the plans as steps, with runs of steps that plans share (Segments) and the head of the roundings
+-- (FractionMask); the plans by name (BuiltIn), and the calls that copy them out (Copy).
+pub mod Computes
+pub mod Segments
+pub mod FractionMask
+pub mod ProductPlan
+pub mod SumPlan
+pub mod FloorPlan
+pub mod BuiltIn
+pub mod Copy

@@ -1,0 +1,36 @@
+// The built-in plans: constant tables of their words, and the calls that copy them out. `specs/` has the plans as steps, and `proofs/` what
+// they compute.
+pub mod built_in;
+mod copy;
+mod floor_table;
+mod product_table;
+mod sum_table;
+
+use built_in::BuiltIn;
+use word::answer::Answer;
+ghost use mathlib.Core.Path.{_≡_};
+ghost use Rattle.plans.specs.Copy.{copyAnswer, copyOut};
+ghost use Rattle.plans.specs.ProductPlan.{productPlan};
+ghost use Rattle.plans.specs.SumPlan.{sumPlan};
+ghost use Rattle.plans.specs.FloorPlan.{floorPlan};
+
+// Copies the product's plan to the front of `out`.
+pub fn copy_product(out: &mut [u32]) -> Answer
+    ensures { λ r. ⌜ (r ≡ copyAnswer productPlan (now (out .entry))) × (now (out .exit) ≡ copyOut productPlan (now (out .entry))) ⌝ }
+{
+    copy::copy(BuiltIn::Product, out)
+}
+
+// Copies the sum's plan to the front of `out`.
+pub fn copy_sum(out: &mut [u32]) -> Answer
+    ensures { λ r. ⌜ (r ≡ copyAnswer sumPlan (now (out .entry))) × (now (out .exit) ≡ copyOut sumPlan (now (out .entry))) ⌝ }
+{
+    copy::copy(BuiltIn::Sum, out)
+}
+
+// Copies floor's plan to the front of `out`.
+pub fn copy_floor(out: &mut [u32]) -> Answer
+    ensures { λ r. ⌜ (r ≡ copyAnswer floorPlan (now (out .entry))) × (now (out .exit) ≡ copyOut floorPlan (now (out .entry))) ⌝ }
+{
+    copy::copy(BuiltIn::Floor, out)
+}
