@@ -60,7 +60,7 @@ exec-size words tape cells = by (stepsOf words) tape cells
     by (s ∷ ss) tape cells = by ss (drop (takes s) tape) (execStep s tape cells) ∙ exec-step-size s tape cells
 
 -- a run's words are as many words of what is left
-due-take : (P : List ℕ) (m b : ℕ) → take (length (due P m b)) (drop m P) ≡ due P m b
+pub due-take : (P : List ℕ) (m b : ℕ) → take (length (due P m b)) (drop m P) ≡ due P m b
 due-take P m b = by b (drop m P)
   where
     by : (b : ℕ) (l : List ℕ) → take (length (take b l)) l ≡ take b l

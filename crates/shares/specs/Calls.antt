@@ -9,6 +9,7 @@ use Rattle.word.specs.Word.{planStep}
 use Rattle.word.specs.Layout.{planMax}
 use Rattle.word.specs.Answers.{firstBad, done, refused, badAt, given, afterCall}
 use Rattle.masking.specs.Translation.{program}
+use Rattle.masking.specs.Runs.{State}
 use Rattle.masking.specs.Foretold.{foretoldWords, foretoldTape}
 
 -- 1 "share count not 2..8", 2 "plan .. too long", 3 "a bad word"; else what comes next
@@ -34,3 +35,7 @@ translateAnswer n plan room = planChecked n plan (given (ltb room (foretoldWords
 abbrev pub translateOut : ℕ → List ℕ → List ℕ → List ℕ
 translateOut n plan out =
     afterCall (translateAnswer n plan (length out)) (program n plan ++ drop (length (program n plan)) out) out
+
+-- where a share run stands
+abbrev pub standing : List ℕ → ℕ → ℕ → State
+standing cells place tapePlace = record { cells = cells; place = place; tapePlace = tapePlace }

@@ -1,0 +1,46 @@
+-- What holds where a share run's answer is done: its places are inside, and the tape is enough.
+use mathlib.Core.Path.{_≡_, refl, sym, ap, _∙_}
+use mathlib.Core.Bool.{Bool, true, false, not, _||_}
+use mathlib.Core.List.{List}
+use Prim.Native.Nat.{ℕ, _-_, _≤_, min}
+use native.Mathlib.Omega.{arith}
+use lib.Dec.{ltb, eqb}
+use lib.ListN.{length}
+use borrow.Author.Tests.{ltb-false}
+use Rattle.word.specs.declared.answer.Answer.{Answer}
+use Rattle.word.specs.Word.{programStep}
+use Rattle.word.specs.Layout.{programMax}
+use Rattle.word.specs.Answers.{firstBad, done, refused, badAt, given}
+use Rattle.masking.specs.Machine.{rands}
+use Rattle.masking.specs.Runs.{State, due, runAnswer}
+use Rattle.masking.proofs.InARow.{due-length}
+
+-- a turn-down that was not given
+pub passed : (b : Bool) (x next : Answer) → (x .number ≡ 0 → ⊥) → given b x next .number ≡ 0 → (b ≡ false) × (next .number ≡ 0)
+passed true x next f e = absurd (f e)
+passed false x next f e = (refl, e)
+
+neither : (p q : Bool) → (p || q) ≡ false → (p ≡ false) × (q ≡ false)
+neither true q e = let z : true ≡ false = e in (cc, cc)
+neither false q e = (refl, e)
+
+pub record Ready (P tape : List ℕ) (st : State) (b : ℕ) (a : Answer) : Type 0 where
+  pub place : st .place ≤ length P
+  pub inTape : st .tapePlace ≤ length tape
+  pub words : a .words ≡ min b (length P - st .place)
+  pub enough : rands (due P (st .place) b) ≤ length tape - st .tapePlace
+
+pub ready : (P tape : List ℕ) (st : State) (b : ℕ) (a : Answer) → a ≡ runAnswer P tape st b → a .number ≡ 0 → Ready P tape st b a
+ready P tape st b a e z =
+    let p₂ = passed (ltb programMax (length P)) (refused 2) _ (λ h. omega arith) (sym (ap (λ (x : Answer). x .number) e) ∙ z) in
+    let p₃ = passed (ltb (firstBad programStep P) (length P)) (badAt (firstBad programStep P)) _ (λ h. omega arith) (p₂ .1) in
+    let p₄ = passed (not (eqb (length (st .cells)) 512)) (refused 4) _ (λ h. omega arith) (p₃ .1) in
+    let p₅ = passed (ltb (length P) (st .place) || ltb (length tape) (st .tapePlace)) (refused 5) _ (λ h. omega arith) (p₄ .1) in
+    let p₆ = passed (ltb (length tape - st .tapePlace) (rands (due P (st .place) b))) (refused 6) _ (λ h. omega arith) (p₅ .1) in
+    let in₅ = neither (ltb (length P) (st .place)) (ltb (length tape) (st .tapePlace)) (p₅ .0) in
+    record {
+      place = ltb-false (length P) (st .place) (in₅ .0);
+      inTape = ltb-false (length tape) (st .tapePlace) (in₅ .1);
+      words = ap (λ (x : Answer). x .words) e ∙ rw (p₂ .0, p₃ .0, p₄ .0, p₅ .0, p₆ .0) (due-length P (st .place) b);
+      enough = ltb-false (length tape - st .tapePlace) (rands (due P (st .place) b)) (p₆ .0);
+    }
