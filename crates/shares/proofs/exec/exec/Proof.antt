@@ -1,20 +1,16 @@
+-- `shares::exec::exec` meets its contract.
 use denote.Ref.{now}
 use mathlib.Core.List.{List, [], _∷_}
-use lib.ListN.{getD, drop-of-length-le}
+use lib.ListN.{getD, drop-of-length-le, length, drop}
 use mathlib.Core.Path.{_≡_, refl, sym, ap, ap₂, _∙_}
 use Prim.Native.Nat.{ℕ, _+_, _-_, _≤_}
 use native.Mathlib.Nat.{zero-add}
 use native.Mathlib.Omega.{arith}
-use lib.ListN.{length, drop}
 use borrow.Author.Needs.{needs}
 use Rattle.masking.specs.Machine.{exec, rands}
-use Rattle.shares.proofs.Turns.{rands-one, rands-turn, exec-turn}
+use Rattle.shares.proofs.Turns.{rands-turn, exec-turn}
 use Rattle.shares.proofs.exec.exec.Statement.{statement}
 use Rattle.shares.proofs.exec.exec.Tie as tie
-use Rattle.shares.proofs.exec.exec.Reads as reads
-use Rattle.shares.proofs.exec.exec.Lts as lts
-use Rattle.shares.proofs.exec.tape_word.Reads as tape-word-reads
-use Rattle.shares.proofs.exec.word_exec.Reads as word-exec-reads
 
 abbrev Inv-loop : tie.InvT-loop
 Inv-loop words tape cells₀ t₀ i₀ i-end cells t i =
@@ -27,27 +23,21 @@ Inv-loop words tape cells₀ t₀ i₀ i-end cells t i =
 abbrev μ-loop : tie.MeasureT-loop
 μ-loop words tape cells₀ t₀ i₀ i-end cells t i = length words - i
 
--- src/exec.rt:77:5
 loop-holds : tie.Need-loop-holds Inv-loop μ-loop
 loop-holds c = (omega arith, refl, refl, zero-add _, refl)
 
--- src/exec.rt:78:24
 mul-word-exec : tie.Need-mul-word-exec Inv-loop μ-loop
 mul-word-exec c = search needs
 
--- src/exec.rt:78:24
 shared-slice-read-word-exec : tie.Need-shared-slice-read-word-exec Inv-loop μ-loop
 shared-slice-read-word-exec c = search needs
 
--- src/exec.rt:78:34
 tape-word-requires : tie.Need-tape-word-requires Inv-loop μ-loop
 tape-word-requires c κs = search needs
 
--- src/exec.rt:78:14
 word-exec-requires : tie.Need-word-exec-requires Inv-loop μ-loop
 word-exec-requires c κs = search needs
 
--- src/exec.rt:78:9
 add-t : tie.Need-add-t Inv-loop μ-loop
 add-t c =
     let words = now (c .before .before .before .before .before .before .before .before .before .before .before .args .words) in
@@ -56,15 +46,12 @@ add-t c =
     let is = c .before .before .word-exec .ensures .0 in
     omega (arith, c .before .before .before .before .before .before .before .before .before .before .before .pre)
 
--- src/exec.rt:77:9
 add-i : tie.Need-add-i Inv-loop μ-loop
 add-i c = search needs
 
--- src/exec.rt:77:5
 loop-less : tie.Need-loop-less Inv-loop μ-loop
 loop-less c = search needs
 
--- src/exec.rt:77:5
 loop-again : tie.Need-loop-again Inv-loop μ-loop
 loop-again c =
     let a = c .before .before .before .before .before .before .before .before .before .before .before .args in
@@ -82,11 +69,9 @@ loop-again c =
           (ap (λ (x : ℕ). exec (getD words (l .i) 0 ∷ []) (x ∷ []) (l .cells)) (sym (c .before .before .before .before .tape-word .ensures)) ∙ sym (is .1)),
     )
 
--- src/exec.rt:72:1
 same-length : tie.Need-same-length Inv-loop μ-loop
 same-length c = c .before .loop .inv .2
 
--- src/exec.rt:72:1
 returns : tie.Need-returns Inv-loop μ-loop
 returns c =
     let words = now (c .before .before .before .before .before .args .words) in

@@ -1,18 +1,15 @@
+-- `shares::exec::rands` meets its contract.
 use denote.Ref.{now}
-use lib.ListN.{getD, drop-of-length-le}
-use mathlib.Core.Path.{_≡_, refl, sym, ap, _∙_}
-use Prim.Native.Nat.{ℕ, _+_, _-_, _≤_}
+use lib.ListN.{getD, drop-of-length-le, length, drop}
+use mathlib.Core.Path.{_≡_, refl, ap}
+use Prim.Native.Nat.{_+_, _-_, _≤_}
 use native.Mathlib.Nat.{zero-add}
 use native.Mathlib.Omega.{arith}
-use lib.ListN.{length, drop}
 use borrow.Author.Needs.{needs}
 use Rattle.masking.specs.Machine.{rands}
 use Rattle.shares.proofs.Turns.{rands-one, rands-turn}
 use Rattle.shares.proofs.exec.rands.Statement.{statement}
 use Rattle.shares.proofs.exec.rands.Tie as tie
-use Rattle.shares.proofs.exec.rands.Reads as reads
-use Rattle.shares.proofs.exec.rands.Lts as lts
-use Rattle.shares.proofs.exec.word_takes.Reads as word-takes-reads
 
 abbrev Inv-loop : tie.InvT-loop
 Inv-loop words count₀ i₀ i-end count i =
@@ -21,37 +18,29 @@ Inv-loop words count₀ i₀ i-end count i =
 abbrev μ-loop : tie.MeasureT-loop
 μ-loop words count₀ i₀ i-end count i = length words - i
 
--- src/exec.rt:46:5
 loop-holds : tie.Need-loop-holds Inv-loop μ-loop
 loop-holds c = (omega arith, refl, omega arith, zero-add _)
 
--- src/exec.rt:47:29
 mul-word-takes : tie.Need-mul-word-takes Inv-loop μ-loop
 mul-word-takes c = search needs
 
--- src/exec.rt:47:29
 shared-slice-read-word-takes : tie.Need-shared-slice-read-word-takes Inv-loop μ-loop
 shared-slice-read-word-takes c = search needs
 
--- src/exec.rt:47:18
 word-takes-requires : tie.Need-word-takes-requires Inv-loop μ-loop
 word-takes-requires c κs = search needs
 
--- src/exec.rt:47:9
 add-count : tie.Need-add-count Inv-loop μ-loop
 add-count c =
     let w = getD (now (c .before .before .before .before .before .args .words)) (c .before .before .before .loop .i) 0 in
     omega (arith, rands-one w, c .word-takes .ensures)
 
--- src/exec.rt:46:9
 add-i : tie.Need-add-i Inv-loop μ-loop
 add-i c = search needs
 
--- src/exec.rt:46:5
 loop-less : tie.Need-loop-less Inv-loop μ-loop
 loop-less c = search needs
 
--- src/exec.rt:46:5
 loop-again : tie.Need-loop-again Inv-loop μ-loop
 loop-again c =
     let words = now (c .before .before .before .before .before .args .words) in
@@ -61,7 +50,6 @@ loop-again c =
     let is = c .word-takes .ensures in
     (omega arith, refl, omega arith, omega arith)
 
--- src/exec.rt:42:1
 returns : tie.Need-returns Inv-loop μ-loop
 returns c =
     let words = now (c .before .before .before .args .words) in

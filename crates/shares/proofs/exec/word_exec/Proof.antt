@@ -1,3 +1,4 @@
+-- `shares::exec::word_exec` meets its contract.
 use denote.Ref.{now}
 use lib.ListN.{set}
 use mathlib.Core.Path.{sym, ap, ap₂, _∙_}
@@ -6,58 +7,39 @@ use Rattle.shares.proofs.Turns.{rands-good, rands-bad, exec-good, exec-
 use borrow.Author.Needs.{needs}
 use Rattle.shares.proofs.exec.word_exec.Statement.{statement}
 use Rattle.shares.proofs.exec.word_exec.Tie as tie
-use Rattle.shares.proofs.exec.word_exec.Reads as reads
-use Rattle.shares.proofs.exec.word_exec.Lts as lts
-use Rattle.shares.proofs.exec.takes.Reads as takes-reads
-use Rattle.word.proofs.step_word.StepWord.of.Reads as of-reads
-use Rattle.word.proofs.step_word.StepWord.program_step.Reads as program-step-reads
-use Rattle.word.proofs.table.becomes.Reads as becomes-reads
-use Rattle.word.proofs.table.dest.Reads as dest-reads
-use Rattle.word.proofs.table.write.Reads as write-reads
 
--- src/exec.rt:63:28
 of-requires : tie.Need-of-requires
 of-requires c κs = search needs
 
--- src/exec.rt:63:28
 program-step-requires : tie.Need-program-step-requires
 program-step-requires c κs = search needs
 
--- src/exec.rt:63:23
 enum-known-s : tie.Need-enum-known-s
 enum-known-s c = search needs
 
--- src/exec.rt:64:9
 enum-told : tie.Need-enum-told
 enum-told c = search needs
 
--- src/exec.rt:64:9
 returns : tie.Need-returns
 returns c =
     let e = sym (ap programStep (c .before .before .before .of .ensures)) ∙ sym (c .before .before .program-step .ensures) ∙ c .enum-told .given .1 in
     (sym (rands-bad _ e), sym (exec-bad _ _ _ e))
 
--- src/exec.rt:66:9
 becomes-requires : tie.Need-becomes-requires
 becomes-requires c κs = search needs
 
--- src/exec.rt:67:18
 dest-requires : tie.Need-dest-requires
 dest-requires c κs = search needs
 
--- src/exec.rt:67:5
 write-requires : tie.Need-write-requires
 write-requires c κs = search needs
 
--- src/exec.rt:68:5
 takes-requires : tie.Need-takes-requires
 takes-requires c κs = search needs
 
--- src/exec.rt:60:1
 same-length : tie.Need-same-length
 same-length c = search needs
 
--- src/exec.rt:60:1
 returns-2 : tie.Need-returns-2
 returns-2 c =
     let e = sym (ap programStep (c .before .before .before .before .before .before .before .before .before .before .before .before .of .ensures)) ∙ sym (c .before .before .before .before .before .before .before .before .before .before .before .program-step .ensures) ∙ c .before .before .before .before .before .before .before .before .before .s .given .1 in

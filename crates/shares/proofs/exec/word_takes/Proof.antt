@@ -1,41 +1,30 @@
+-- `shares::exec::word_takes` meets its contract.
 use mathlib.Core.Path.{sym, ap, _∙_}
 use Rattle.word.specs.Word.{programStep}
 use Rattle.shares.proofs.Turns.{rands-good, rands-bad}
 use borrow.Author.Needs.{needs}
 use Rattle.shares.proofs.exec.word_takes.Statement.{statement}
 use Rattle.shares.proofs.exec.word_takes.Tie as tie
-use Rattle.shares.proofs.exec.word_takes.Reads as reads
-use Rattle.shares.proofs.exec.word_takes.Lts as lts
-use Rattle.shares.proofs.exec.takes.Reads as takes-reads
-use Rattle.word.proofs.step_word.StepWord.of.Reads as of-reads
-use Rattle.word.proofs.step_word.StepWord.program_step.Reads as program-step-reads
 
--- src/exec.rt:35:28
 of-requires : tie.Need-of-requires
 of-requires c κs = search needs
 
--- src/exec.rt:35:28
 program-step-requires : tie.Need-program-step-requires
 program-step-requires c κs = search needs
 
--- src/exec.rt:35:23
 enum-known-s : tie.Need-enum-known-s
 enum-known-s c = search needs
 
--- src/exec.rt:36:9
 enum-told : tie.Need-enum-told
 enum-told c = search needs
 
--- src/exec.rt:36:9
 returns : tie.Need-returns
 returns c =
     sym (rands-bad _ (sym (ap programStep (c .before .before .before .of .ensures)) ∙ sym (c .before .before .program-step .ensures) ∙ c .enum-told .given .1))
 
--- src/exec.rt:38:5
 takes-requires : tie.Need-takes-requires
 takes-requires c κs = search needs
 
--- src/exec.rt:32:1
 returns-2 : tie.Need-returns-2
 returns-2 c =
     c .takes .ensures ∙ sym (rands-good _ _ (sym (ap programStep (c .before .before .before .before .before .of .ensures)) ∙ sym (c .before .before .before .before .program-step .ensures) ∙ c .before .before .s .given .1))

@@ -1,3 +1,4 @@
+-- `shares::run::run_answer` meets its contract.
 use denote.Ref.{now}
 use Prim.Native.Nat.{ℕ, _+_, _-_}
 use lib.ListN.{take, drop}
@@ -11,109 +12,79 @@ use Rattle.shares.proofs.Turns.{due-part}
 use borrow.Author.Needs.{needs}
 use Rattle.shares.proofs.run.run_answer.Statement.{statement}
 use Rattle.shares.proofs.run.run_answer.Tie as tie
-use Rattle.shares.proofs.run.run_answer.Reads as reads
-use Rattle.shares.proofs.run.run_answer.Lts as lts
-use Rattle.shares.proofs.exec.rands.Reads as rands-reads
-use Rattle.shares.proofs.run.smaller.Reads as smaller-reads
-use Rattle.word.proofs.answer.Answer.bad_at.Reads as bad-at-reads
-use Rattle.word.proofs.answer.Answer.done.Reads as done-reads
-use Rattle.word.proofs.answer.Answer.refused.Reads as refused-reads
-use Rattle.word.proofs.check.program_first_bad.Reads as program-first-bad-reads
 
--- src/run.rt:23:9
 refused-requires : tie.Need-refused-requires
 refused-requires c κs = search needs
 
--- src/run.rt:23:9
 returns : tie.Need-returns
 returns c = rw (lt-ltb _ _ (c .before .if1 .taken)) (c .refused .ensures)
 
--- src/run.rt:25:9
 program-first-bad-requires : tie.Need-program-first-bad-requires
 program-first-bad-requires c κs = search needs
 
--- src/run.rt:27:9
 bad-at-requires : tie.Need-bad-at-requires
 bad-at-requires c κs = search needs
 
--- src/run.rt:27:9
 returns-2 : tie.Need-returns-2
 returns-2 c =
     let f = c .before .before .program-first-bad .ensures in
     rw (le-ltb _ _ (c .before .before .before .if1 .left), lt-ltb _ _ (rw f at (c .before .if2 .taken))) (rw f at (c .bad-at .ensures))
 
--- src/run.rt:30:9
 refused-requires-2 : tie.Need-refused-requires-2
 refused-requires-2 c κs = search needs
 
--- src/run.rt:30:9
 returns-3 : tie.Need-returns-3
 returns-3 c =
     let f = c .before .before .before .program-first-bad .ensures in
     rw (le-ltb _ _ (c .before .before .before .before .if1 .left), le-ltb _ _ (rw f at (c .before .before .if2 .left)), ne-eqb _ _ (c .before .if3 .taken)) (c .refused2 .ensures)
 
--- src/run.rt:33:9
 refused-requires-3 : tie.Need-refused-requires-3
 refused-requires-3 c κs = search needs
 
--- src/run.rt:33:9
 returns-4 : tie.Need-returns-4
 returns-4 c =
     let f = c .before .before .before .before .program-first-bad .ensures in
     rw (le-ltb _ _ (c .before .before .before .before .before .if1 .left), le-ltb _ _ (rw f at (c .before .before .before .if2 .left)), eq-eqb _ _ (c .before .before .if3 .left), lt-ltb _ _ (c .before .if4 .taken)) (c .refused3 .ensures)
 
--- src/run.rt:36:9
 refused-requires-4 : tie.Need-refused-requires-4
 refused-requires-4 c κs = search needs
 
--- src/run.rt:36:9
 returns-5 : tie.Need-returns-5
 returns-5 c =
     let f = c .before .before .before .before .before .program-first-bad .ensures in
     rw (le-ltb _ _ (c .before .before .before .before .before .before .if1 .left), le-ltb _ _ (rw f at (c .before .before .before .before .if2 .left)), eq-eqb _ _ (c .before .before .before .if3 .left), le-ltb _ _ (c .before .before .if4 .left), lt-ltb _ _ (c .before .if5 .taken))
     (c .refused4 .ensures)
 
--- src/run.rt:38:33
 sub-smaller : tie.Need-sub-smaller
 sub-smaller c = search needs
 
--- src/run.rt:38:9
 smaller-requires : tie.Need-smaller-requires
 smaller-requires c κs = search needs
 
--- src/run.rt:39:15
 add-end : tie.Need-add-end
 add-end c = search needs
 
--- src/run.rt:40:22
 mul-rands : tie.Need-mul-rands
 mul-rands c = search needs
 
--- src/run.rt:40:22
 sub-rands : tie.Need-sub-rands
 sub-rands c = search needs
 
--- src/run.rt:40:22
 part-rands-start : tie.Need-part-rands-start
 part-rands-start c = search needs
 
--- src/run.rt:40:22
 part-rands-end : tie.Need-part-rands-end
 part-rands-end c = search needs
 
--- src/run.rt:40:9
 rands-requires : tie.Need-rands-requires
 rands-requires c κs = search needs
 
--- src/run.rt:41:8
 sub-if6 : tie.Need-sub-if6
 sub-if6 c = search needs
 
--- src/run.rt:42:9
 refused-requires-5 : tie.Need-refused-requires-5
 refused-requires-5 c κs = search needs
 
--- src/run.rt:42:9
 returns-6 : tie.Need-returns-6
 returns-6 c =
     let a = c .before .before .before .before .before .before .before .before .before .before .before .before .before .before .args in
@@ -124,11 +95,9 @@ returns-6 c =
     c .before .before .rands .ensures ∙ ap (λ (k : ℕ). rands (take (a .place + k - a .place) (drop (a .place) P))) m ∙ ap rands (due-part P (a .place) (a .budget)) in
     rw (le-ltb _ _ (c .before .before .before .before .before .before .before .before .before .before .if1 .left), le-ltb _ _ (rw f at (c .before .before .before .before .before .before .before .before .if2 .left)), eq-eqb _ _ (c .before .before .before .before .before .before .before .if3 .left), le-ltb _ _ (c .before .before .before .before .before .before .if4 .left), le-ltb _ _ (c .before .before .before .before .before .if5 .left), lt-ltb _ _ (rw u at (c .before .if6 .taken))) (c .refused5 .ensures)
 
--- src/run.rt:44:5
 done-requires : tie.Need-done-requires
 done-requires c κs = search needs
 
--- src/run.rt:19:1
 returns-7 : tie.Need-returns-7
 returns-7 c =
     let a = c .before .before .before .before .before .before .before .before .before .before .before .before .before .before .args in

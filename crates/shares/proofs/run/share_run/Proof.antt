@@ -1,8 +1,9 @@
-use mathlib.Core.Path.{_≡_, sym, ap, _∙_}
+-- `shares::run::share_run` meets its contract.
+use mathlib.Core.Path.{_≡_, ap, _∙_}
 use denote.Ref.{now}
 use Prim.Native.Nat.{ℕ, _+_, _-_}
 use native.Mathlib.Omega.{arith}
-use lib.ListN.{length, take, drop, length-drop}
+use lib.ListN.{take, drop, length-drop}
 use borrow.Author.Tests.{eq-eqb, ne-eqb}
 use Rattle.masking.specs.Runs.{due}
 use Rattle.shares.specs.Calls.{standing}
@@ -11,70 +12,55 @@ use Rattle.shares.proofs.Turns.{due-part, rest-part}
 use borrow.Author.Needs.{needs}
 use Rattle.shares.proofs.run.share_run.Statement.{statement}
 use Rattle.shares.proofs.run.share_run.Tie as tie
-use Rattle.shares.proofs.run.share_run.Reads as reads
-use Rattle.shares.proofs.run.share_run.Lts as lts
-use Rattle.shares.proofs.exec.exec.Reads as exec-reads
-use Rattle.shares.proofs.run.run_answer.Reads as run-answer-reads
 
--- src/run.rt:53:9
 run-answer-requires : tie.Need-run-answer-requires
 run-answer-requires c κs = search needs
 
--- src/run.rt:55:19
 add-end : tie.Need-add-end
 add-end c =
     let a = c .before .before .before .before .before .before .before .before .args in
     let r = ready (now (a .program)) (now (a .tape)) (standing (now (a .cells)) (a .place) (a .tape-place)) (a .budget) _ (c .before .before .before .run-answer .ensures) (c .before .if1 .taken) in
     omega (arith, r .place, r .words)
 
--- src/run.rt:56:14
 mul-exec : tie.Need-mul-exec
 mul-exec c =
     let a = c .before .before .before .before .before .before .before .before .args in
     let r = ready (now (a .program)) (now (a .tape)) (standing (now (a .cells)) (a .place) (a .tape-place)) (a .budget) _ (c .before .before .before .run-answer .ensures) (c .before .if1 .taken) in
     omega (arith, r .place, r .words)
 
--- src/run.rt:56:14
 sub-exec : tie.Need-sub-exec
 sub-exec c = search needs
 
--- src/run.rt:56:14
 part-exec-start : tie.Need-part-exec-start
 part-exec-start c = search needs
 
--- src/run.rt:56:14
 part-exec-end : tie.Need-part-exec-end
 part-exec-end c =
     let a = c .before .before .before .before .before .before .before .before .args in
     let r = ready (now (a .program)) (now (a .tape)) (standing (now (a .cells)) (a .place) (a .tape-place)) (a .budget) _ (c .before .before .before .run-answer .ensures) (c .before .if1 .taken) in
     omega (arith, r .place, r .words)
 
--- src/run.rt:56:36
 mul-exec-2 : tie.Need-mul-exec-2
 mul-exec-2 c =
     let a = c .before .before .before .before .before .before .before .before .before .args in
     let r = ready (now (a .program)) (now (a .tape)) (standing (now (a .cells)) (a .place) (a .tape-place)) (a .budget) _ (c .before .before .before .before .run-answer .ensures) (c .before .before .if1 .taken) in
     omega (arith, r .inTape)
 
--- src/run.rt:56:36
 sub-exec-2 : tie.Need-sub-exec-2
 sub-exec-2 c =
     let a = c .before .before .before .before .before .before .before .before .before .args in
     let r = ready (now (a .program)) (now (a .tape)) (standing (now (a .cells)) (a .place) (a .tape-place)) (a .budget) _ (c .before .before .before .before .run-answer .ensures) (c .before .before .if1 .taken) in
     omega (arith, r .inTape)
 
--- src/run.rt:56:36
 part-exec-start-2 : tie.Need-part-exec-start-2
 part-exec-start-2 c =
     let a = c .before .before .before .before .before .before .before .before .before .args in
     let r = ready (now (a .program)) (now (a .tape)) (standing (now (a .cells)) (a .place) (a .tape-place)) (a .budget) _ (c .before .before .before .before .run-answer .ensures) (c .before .before .if1 .taken) in
     omega (arith, r .inTape)
 
--- src/run.rt:56:36
 part-exec-end-2 : tie.Need-part-exec-end-2
 part-exec-end-2 c = search needs
 
--- src/run.rt:56:9
 exec-requires : tie.Need-exec-requires
 exec-requires c κs =
     let a = c .before .before .before .before .before .before .before .before .before .before .before .args in
@@ -84,11 +70,9 @@ exec-requires c κs =
     ap (λ (k : ℕ). take (a .place + k - a .place) (drop (a .place) P)) (r .words) ∙ due-part P (a .place) (a .budget) in
     rw (e, rest-part (now (a .tape)) (a .tape-place), length-drop) (r .enough)
 
--- src/run.rt:49:1
 same-length : tie.Need-same-length
 same-length c = search needs
 
--- src/run.rt:49:1
 returns : tie.Need-returns
 returns c =
     let a = c .before .before .before .before .before .before .before .before .before .before .before .before .before .before .args in
@@ -99,11 +83,9 @@ returns c =
     let f = c .before .before .before .before .before .before .before .before .before .run-answer .ensures in
     (f, rw (← f, eq-eqb _ 0 (c .before .before .before .before .before .before .before .if1 .taken)) (rw (e, rest-part (now (a .tape)) (a .tape-place)) at (c .before .before .exec .ensures)))
 
--- src/run.rt:49:1
 same-length-2 : tie.Need-same-length-2
 same-length-2 c = search needs
 
--- src/run.rt:49:1
 returns-2 : tie.Need-returns-2
 returns-2 c =
     let e = c .before .before .run-answer .ensures in

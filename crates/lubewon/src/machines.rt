@@ -1,0 +1,38 @@
+// Plain run, share run and one share step for C.
+ghost use mathlib.Core.Path.{_≡_};
+ghost use lib.ListN.{length};
+ghost use Rattle.plain.specs.Call.{plainAnswer, plainCells};
+ghost use Rattle.masking.specs.Runs.{runAnswer, runCells, stepAnswer, stepCells};
+ghost use Rattle.shares.specs.Calls.{standing};
+use word::answer::Answer;
+
+#[no_mangle]
+pub extern "C" fn lubewon_plain_run(plan: &[u32], cells: &mut [u64]) -> Answer
+    ensures answer { λ r. ⌜ r ≡ plainAnswer (now (plan .entry)) (length (now (cells .entry))) ⌝ }
+    ensures cells { λ _. ⌜ now (cells .exit) ≡ plainCells (now (plan .entry)) (now (cells .entry)) ⌝ }
+{
+    plain::plain_run(plan, cells)
+}
+
+#[no_mangle]
+pub extern "C" fn lubewon_share_run(
+    program: &[u32],
+    place: usize,
+    tape: &[u64],
+    tape_place: usize,
+    budget: usize,
+    cells: &mut [u64],
+) -> Answer
+    ensures answer { λ r. ⌜ r ≡ runAnswer (now (program .entry)) (now (tape .entry)) (standing (now (cells .entry)) place «tape_place») budget ⌝ }
+    ensures cells { λ _. ⌜ now (cells .exit) ≡ runCells (now (program .entry)) (now (tape .entry)) (standing (now (cells .entry)) place «tape_place») budget ⌝ }
+{
+    shares::run::share_run(program, place, tape, tape_place, budget, cells)
+}
+
+#[no_mangle]
+pub extern "C" fn lubewon_one_share_step(word: u32, tape: &[u64], tape_place: usize, cells: &mut [u64]) -> Answer
+    ensures answer { λ r. ⌜ r ≡ stepAnswer word (now (tape .entry)) (now (cells .entry)) «tape_place» ⌝ }
+    ensures cells { λ _. ⌜ now (cells .exit) ≡ stepCells word (now (tape .entry)) (now (cells .entry)) «tape_place» ⌝ }
+{
+    shares::run::one_share_step(word, tape, tape_place, cells)
+}

@@ -1,0 +1,52 @@
+// Product, sum and floor on plain words, and the copies of their plans, for C.
+ghost use mathlib.Core.Path.{_≡_};
+ghost use Rattle.binary64.specs.Product as product-spec;
+ghost use Rattle.binary64.specs.Sum as sum-spec;
+ghost use Rattle.binary64.specs.Floor as floor-spec;
+ghost use Rattle.plans.specs.Copy.{copyAnswer, copyOut};
+ghost use Rattle.plans.specs.ProductPlan.{productPlan};
+ghost use Rattle.plans.specs.SumPlan.{sumPlan};
+ghost use Rattle.plans.specs.FloorPlan.{floorPlan};
+use word::answer::Answer;
+
+#[no_mangle]
+pub extern "C" fn lubewon_product(a: u64, b: u64) -> u64
+    ensures { λ r. ⌜ r ≡ product-spec.product a b ⌝ }
+{
+    binary64::product(a, b)
+}
+
+#[no_mangle]
+pub extern "C" fn lubewon_sum(a: u64, b: u64) -> u64
+    ensures { λ r. ⌜ r ≡ sum-spec.sum a b ⌝ }
+{
+    binary64::sum(a, b)
+}
+
+#[no_mangle]
+pub extern "C" fn lubewon_floor(a: u64) -> u64
+    ensures { λ r. ⌜ r ≡ floor-spec.floor a ⌝ }
+{
+    binary64::floor(a)
+}
+
+#[no_mangle]
+pub extern "C" fn lubewon_copy_product_plan(out: &mut [u32]) -> Answer
+    ensures { λ r. ⌜ (r ≡ copyAnswer productPlan (now (out .entry))) × (now (out .exit) ≡ copyOut productPlan (now (out .entry))) ⌝ }
+{
+    plans::copy_product(out)
+}
+
+#[no_mangle]
+pub extern "C" fn lubewon_copy_sum_plan(out: &mut [u32]) -> Answer
+    ensures { λ r. ⌜ (r ≡ copyAnswer sumPlan (now (out .entry))) × (now (out .exit) ≡ copyOut sumPlan (now (out .entry))) ⌝ }
+{
+    plans::copy_sum(out)
+}
+
+#[no_mangle]
+pub extern "C" fn lubewon_copy_floor_plan(out: &mut [u32]) -> Answer
+    ensures { λ r. ⌜ (r ≡ copyAnswer floorPlan (now (out .entry))) × (now (out .exit) ≡ copyOut floorPlan (now (out .entry))) ⌝ }
+{
+    plans::copy_floor(out)
+}

@@ -1,0 +1,38 @@
+-- What is proved of the operations on shares: their results join to the operation on the joined operands, and each of their steps has demand
+-- 3's secrecy in terms of the operands' shares.
+use mathlib.Core.Path.{_≡_}
+use mathlib.Core.List.{List}
+use Prim.Native.Nat.{ℕ, suc, _≤_, _<_}
+use lib.ListN.{length, getD}
+use Rattle.masking.specs.Translation.{program}
+use Rattle.masking.specs.Foretold.{foretoldTape}
+use Rattle.masking.specs.Machine.{Words}
+use Rattle.masking.specs.Secrecy.{Hidden}
+use Rattle.operations.specs.Shares.{placed, resultShares}
+use Rattle.operations.specs.Splitting.{xorAll}
+
+-- n shares
+pub record Operand (n : ℕ) (x : List ℕ) : Type 0 where
+  pub size : length x ≡ n
+  pub words : Words x
+
+-- over any tape as long as foretold, the result joins to the operation `op` on the joined operands
+abbrev pub Joins : List ℕ → (ℕ → ℕ → ℕ) → Type 0
+Joins plan op =
+    (n : ℕ) → 2 ≤ n → n ≤ 8 → (x y tape : List ℕ) → Operand n x → Operand n y → Words tape → foretoldTape n plan ≤ length tape
+    → xorAll (resultShares plan n x y tape) ≡ op (xorAll x) (xorAll y)
+
+-- for each step some share number: for any operands that agree in that share, the step's word is hidden (Hidden is demand 3's)
+pub record StepSecret (plan : List ℕ) (n s : ℕ) : Type 0 where
+  pub share : ℕ
+  pub below : share < n
+  pub hidden : (x y x′ y′ : List ℕ) → Operand n x → Operand n y → Operand n x′ → Operand n y′
+      → getD x share 0 ≡ getD x′ share 0 → getD y share 0 ≡ getD y′ share 0
+      → Hidden n plan s (placed x y) (placed x′ y′)
+
+abbrev pub Secretive : List ℕ → Type 0
+Secretive plan = (n : ℕ) → 2 ≤ n → n ≤ 8 → (s : ℕ) → s < length (program n plan) → StepSecret plan n s
+
+-- split and join go there and back
+abbrev pub RoundTrip : Type 0
+RoundTrip = (word : ℕ) (masks : List ℕ) → xorAll (Rattle.operations.specs.Splitting.splitOf word masks) ≡ word

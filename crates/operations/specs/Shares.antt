@@ -1,0 +1,50 @@
+-- Product, sum and floor on shares, from document 01's section "Calls and their turn-downs": "n is the first operand's length; the other
+-- operand and the result have n words, the work slice 512. Work starts as zeros with operands placed, runs the translated plan and is zeros
+-- afterwards. The result shares are exactly those that share run gives over the same tape. The answer gives tape words used."
+use mathlib.Core.Bool.{not, _&&_}
+use mathlib.Core.List.{List, [], _∷_, map}
+use Prim.Native.Nat.{ℕ, suc}
+use lib.Dec.{leb, ltb, eqb}
+use lib.ListN.{length, getD, set, replicate}
+use Rattle.word.specs.declared.answer.Answer.{Answer}
+use Rattle.word.specs.Layout.{cell}
+use Rattle.word.specs.Answers.{done, refused, given, afterCall}
+use Rattle.masking.specs.Translation.{shares, program}
+use Rattle.masking.specs.Foretold.{foretoldTape}
+use Rattle.masking.specs.Runs.{State, runCells}
+
+-- the answer, by lengths: 1 "share count not 2..8", 4 "a slice of wrong length", 6 "tape too short"; an operation with one operand hands n
+-- for `other`
+unfoldable pub operationAnswer : List ℕ → ℕ → ℕ → ℕ → ℕ → ℕ → Answer
+operationAnswer plan n other result work tape =
+    given (not (leb 2 n && leb n 8)) (refused 1)
+    (given (not (eqb other n && (eqb result n && eqb work 512))) (refused 4)
+    (given (ltb tape (foretoldTape n plan)) (refused 6)
+    (done 0 (foretoldTape n plan))))
+
+-- shares into register r, from share i on
+abbrev pub placedIn : ℕ → ℕ → List ℕ → List ℕ → List ℕ
+placedIn r i [] cells = cells
+placedIn r i (x ∷ xs) cells = placedIn r (suc i) xs (set cells (cell i r) x)
+
+-- "Work starts as zeros with operands placed": registers 0 and 1
+unfoldable pub placed : List ℕ → List ℕ → List ℕ
+placed x y = placedIn 1 0 y (placedIn 0 0 x (replicate 512 0))
+
+-- the cells after a share run over the whole translated plan
+unfoldable pub finished : List ℕ → ℕ → List ℕ → List ℕ → List ℕ → List ℕ
+finished plan n x y tape = runCells (program n plan) tape (record { cells = placed x y; place = 0; tapePlace = 0 }) (length (program n plan))
+
+-- the result's shares: register 2
+unfoldable pub resultShares : List ℕ → ℕ → List ℕ → List ℕ → List ℕ → List ℕ
+resultShares plan n x y tape = map (λ i. getD (finished plan n x y tape) (cell i 2) 0) (shares n)
+
+-- the answer of a call on lent slices, the result afterwards, and the work slice afterwards
+abbrev pub callAnswer : List ℕ → List ℕ → ℕ → List ℕ → List ℕ → List ℕ → Answer
+callAnswer plan x other result work tape = operationAnswer plan (length x) other (length result) (length work) (length tape)
+
+abbrev pub resultAfter : List ℕ → List ℕ → List ℕ → ℕ → List ℕ → List ℕ → List ℕ → List ℕ
+resultAfter plan x y other result work tape = afterCall (callAnswer plan x other result work tape) (resultShares plan (length x) x y tape) result
+
+abbrev pub workAfter : List ℕ → List ℕ → ℕ → List ℕ → List ℕ → List ℕ → List ℕ
+workAfter plan x other result work tape = afterCall (callAnswer plan x other result work tape) (replicate 512 0) work
