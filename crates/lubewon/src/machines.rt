@@ -30,7 +30,12 @@ pub extern "C" fn lubewon_share_run(
 }
 
 #[no_mangle]
-pub extern "C" fn lubewon_one_share_step(word: u32, tape: &[u64], tape_place: usize, cells: &mut [u64]) -> Answer
+pub extern "C" fn lubewon_one_share_step(
+    word: u32,
+    tape: &[u64],
+    tape_place: usize,
+    cells: &mut [u64],
+) -> Answer
     ensures answer { λ r. ⌜ r ≡ stepAnswer word (now (tape .entry)) (now (cells .entry)) «tape_place» ⌝ }
     ensures cells { λ _. ⌜ now (cells .exit) ≡ stepCells word (now (tape .entry)) (now (cells .entry)) «tape_place» ⌝ }
 {

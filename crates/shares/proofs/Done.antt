@@ -6,10 +6,12 @@ use Prim.Native.Nat.{ℕ, _-_, _≤_, min}
 use native.Mathlib.Omega.{arith}
 use lib.Dec.{ltb, eqb}
 use lib.ListN.{length}
-use borrow.Author.Tests.{ltb-false}
+use native.Mathlib.Nat.{le-antisymm}
+use borrow.Author.Tests.{ltb-false, eqb-true, not-false}
 use Rattle.word.specs.declared.answer.Answer.{Answer}
 use Rattle.word.specs.Word.{programStep}
 use Rattle.word.specs.Layout.{programMax}
+use Rattle.word.proofs.Checking.{first-bad}
 use Rattle.word.specs.Answers.{firstBad, done, refused, badAt, given}
 use Rattle.masking.specs.Machine.{rands}
 use Rattle.masking.specs.Runs.{State, due, runAnswer}
@@ -25,6 +27,8 @@ neither true q e = let z : true ≡ false = e in (cc, cc)
 neither false q e = (refl, e)
 
 pub record Ready (P tape : List ℕ) (st : State) (b : ℕ) (a : Answer) : Type 0 where
+  pub good : firstBad programStep P ≡ length P
+  pub size : length (st .cells) ≡ 512
   pub place : st .place ≤ length P
   pub inTape : st .tapePlace ≤ length tape
   pub words : a .words ≡ min b (length P - st .place)
@@ -39,6 +43,8 @@ ready P tape st b a e z =
     let p₆ = passed (ltb (length tape - st .tapePlace) (rands (due P (st .place) b))) (refused 6) _ (λ h. omega arith) (p₅ .1) in
     let in₅ = neither (ltb (length P) (st .place)) (ltb (length tape) (st .tapePlace)) (p₅ .0) in
     record {
+      good = le-antisymm (first-bad programStep P .within) (ltb-false (firstBad programStep P) (length P) (p₃ .0));
+      size = eqb-true (length (st .cells)) 512 (not-false (eqb (length (st .cells)) 512) (p₄ .0));
       place = ltb-false (length P) (st .place) (in₅ .0);
       inTape = ltb-false (length tape) (st .tapePlace) (in₅ .1);
       words = ap (λ (x : Answer). x .words) e ∙ rw (p₂ .0, p₃ .0, p₄ .0, p₅ .0, p₆ .0) (due-length P (st .place) b);

@@ -1,80 +1,63 @@
-// The share machine: words done in order on the cells, RAND taking the next tape word.
+// The share machine: good words done in order on the cells by their kinds and fields, RAND taking the next tape word. The calls above
+// check the whole program first.
 ghost use mathlib.Core.Path.{_≡_};
 ghost use mathlib.Core.List.{[], _∷_};
 ghost use Prim.Native.Nat.{_+_, _≤_};
-ghost use lib.ListN.{length, getD};
+ghost use lib.ListN.{length};
+ghost use Rattle.word.specs.Word.{kindOf};
 ghost use Rattle.masking.specs.Machine as machine;
-use word::step::Decoded;
-use word::step::Step;
+ghost use Rattle.shares.specs.Good.{AllGood, GoodWord};
 use word::step_word::StepWord;
-use word::table::becomes;
-use word::table::dest;
-use word::table::write;
 
-// Tape words that a step takes.
-pub fn takes(s: Step) -> usize
-    ensures { λ r. ⌜ r ≡ machine.takes s ⌝ }
-{
-    match s {
-        Step::Const { d: _, k: _ } => 0,
-        Step::Xor { d: _, a: _, b: _ } => 0,
-        Step::And { d: _, a: _, b: _ } => 0,
-        Step::Not { d: _, a: _ } => 0,
-        Step::Shl { d: _, a: _, b: _ } => 0,
-        Step::Shr { d: _, a: _, b: _ } => 0,
-        Step::Spread { d: _, a: _ } => 0,
-        Step::Add { d: _, a: _, b: _ } => 0,
-        Step::Rand { d: _ } => 1,
-    }
-}
-
-// Tape words that a word takes: a bad word none.
-pub fn word_takes(w: u32) -> usize
-    ensures { λ r. ⌜ r ≡ machine.rands (w ∷ []) ⌝ }
-{
-    let Decoded::Good(s) = StepWord::of(w).program_step() else {
-        return 0;
-    };
-    takes(s)
-}
-
-// The RANDs among some words.
+// The RANDs among good words: those of kind 9.
 pub fn rands(words: &[u32]) -> usize
+    requires { ⌜ AllGood (now words) ⌝ }
     ensures { λ r. ⌜ r ≡ machine.rands (now (words .entry)) ⌝ }
 {
     let mut count = 0;
     for i in 0..words.len() {
-        count += word_takes(words[i]);
+        if words[i] >> StepWord::KIND_AT == 9 {
+            count += 1;
+        }
     }
     count
 }
 
-// Tape word t, 0 past the end.
-pub fn tape_word(tape: &[u64], t: usize) -> u64
-    ensures { λ r. ⌜ r ≡ getD (now (tape .entry)) t 0 ⌝ }
+// A good word that is no RAND, on 512 cells, by its kind and fields.
+fn word_exec(w: u32, cells: &mut [u64])
+    requires { ⌜ (length (now cells) ≡ 512) × (GoodWord w × (kindOf w ≡ 9 → ⊥)) ⌝ }
+    ensures { λ _. ⌜ now (cells .exit) ≡ machine.exec (w ∷ []) [] (now (cells .entry)) ⌝ }
 {
-    if t < tape.len() { tape[t] } else { 0 }
+    let kind = w >> StepWord::KIND_AT;
+    let d = ((w >> StepWord::D_AT) % StepWord::FIELD) as usize;
+    let a = ((w >> StepWord::A_AT) % StepWord::FIELD) as usize;
+    let b = (w % StepWord::FIELD) as usize;
+    match kind {
+        1 => cells[d] = (w % 262144) as u64,
+        2 => cells[d] = cells[a] ^ cells[b],
+        3 => cells[d] = cells[a] & cells[b],
+        4 => cells[d] = !cells[a],
+        5 => cells[d] = cells[a] << ((w % StepWord::FIELD) % 64),
+        6 => cells[d] = cells[a] >> ((w % StepWord::FIELD) % 64),
+        7 => cells[d] = (cells[a] % 2) * 18446744073709551615,
+        _ => (),
+    }
 }
 
-// One word: a bad one does nothing. `next` is the next tape word; gives the tape words taken.
-pub fn word_exec(w: u32, next: u64, cells: &mut [u64]) -> usize
-    ensures { λ r. ⌜ (r ≡ machine.rands (w ∷ [])) × (now (cells .exit) ≡ machine.exec (w ∷ []) (next ∷ []) (now (cells .entry))) ⌝ }
-{
-    let Decoded::Good(s) = StepWord::of(w).program_step() else {
-        return 0;
-    };
-    let v = becomes(s, cells, next);
-    write(cells, dest(s), v);
-    takes(s)
-}
-
-// Words in order, over a tape that has enough words for them.
+// Good words in order on 512 cells, over a tape that has enough words for them.
 pub fn exec(words: &[u32], tape: &[u64], cells: &mut [u64])
-    requires { ⌜ machine.rands (now words) ≤ length (now tape) ⌝ }
+    requires { ⌜ (machine.rands (now words) ≤ length (now tape)) × ((length (now cells) ≡ 512) × AllGood (now words)) ⌝ }
     ensures { λ _. ⌜ now (cells .exit) ≡ machine.exec (now (words .entry)) (now (tape .entry)) (now (cells .entry)) ⌝ }
 {
     let mut t = 0;
     for i in 0..words.len() {
-        t += word_exec(words[i], tape_word(tape, t), cells);
+        let w = words[i];
+        if w >> StepWord::KIND_AT == 9 {
+            let d = ((w >> StepWord::D_AT) % StepWord::FIELD) as usize;
+            cells[d] = tape[t];
+            t += 1;
+        } else {
+            word_exec(w, cells);
+        }
     }
 }

@@ -128,14 +128,14 @@ word-lt (Rand d) = put-lt 9 d 0 0
 -- ---- a word that is not bad is what its parts put together again
 
 -- a row's test, or the rows below it
-pick : {G : Type 0} (c : Bool) (x r : Decoded) (s : Step) → (c ≡ true → x ≡ Good s → G) → (r ≡ Good s → G) → either c x r ≡ Good s → G
+pub pick : {G : Type 0} (c : Bool) (x r : Decoded) (s : Step) → (c ≡ true → x ≡ Good s → G) → (r ≡ Good s → G) → either c x r ≡ Good s → G
 pick true x r s f g h = f refl h
 pick false x r s f g h = g h
 
-never : {G : Type 0} (s : Step) → Bad ≡ Good s → G
+pub never : {G : Type 0} (s : Step) → Bad ≡ Good s → G
 never s e = let z : _≡_ {A = ℕ} 0 1 = cc in absurd (omega arith)
 
-same-step : (s t : Step) → Good s ≡ Good t → s ≡ t
+pub same-step : (s t : Step) → Good s ≡ Good t → s ≡ t
 same-step s t e = cc
 
 -- a constant's 18 bits are its two fields

@@ -1,14 +1,16 @@
 -- `shares::exec::exec` meets its contract.
-use denote.Ref.{now}
-use mathlib.Core.List.{List, [], _∷_}
-use lib.ListN.{getD, drop-of-length-le, length, drop}
 use mathlib.Core.Path.{_≡_, refl, sym, ap, ap₂, _∙_}
+use mathlib.Core.Logic.{⊎-elim}
+use mathlib.Core.List.{List}
+use denote.Ref.{now}
 use Prim.Native.Nat.{ℕ, _+_, _-_, _≤_}
 use native.Mathlib.Nat.{zero-add}
 use native.Mathlib.Omega.{arith}
+use lib.ListN.{length, getD, drop, drop-of-length-le, length-set}
 use borrow.Author.Needs.{needs}
 use Rattle.masking.specs.Machine.{exec, rands}
-use Rattle.shares.proofs.Turns.{rands-turn, exec-turn}
+use Rattle.shares.proofs.Turns.{rands-turn}
+use Rattle.shares.proofs.ByKind.{takes-rand, takes-none, rand-turn, other-turn}
 use Rattle.shares.proofs.exec.exec.Statement.{statement}
 use Rattle.shares.proofs.exec.exec.Tie as tie
 
@@ -26,25 +28,38 @@ abbrev μ-loop : tie.MeasureT-loop
 loop-holds : tie.Need-loop-holds Inv-loop μ-loop
 loop-holds c = (omega arith, refl, refl, zero-add _, refl)
 
-mul-word-exec : tie.Need-mul-word-exec Inv-loop μ-loop
-mul-word-exec c = search needs
+mul-w : tie.Need-mul-w Inv-loop μ-loop
+mul-w c = search needs
 
-shared-slice-read-word-exec : tie.Need-shared-slice-read-word-exec Inv-loop μ-loop
-shared-slice-read-word-exec c = search needs
+shared-slice-read-w : tie.Need-shared-slice-read-w Inv-loop μ-loop
+shared-slice-read-w c = search needs
 
-tape-word-requires : tie.Need-tape-word-requires Inv-loop μ-loop
-tape-word-requires c κs = search needs
+cast-d : tie.Need-cast-d Inv-loop μ-loop
+cast-d c = search needs
 
-word-exec-requires : tie.Need-word-exec-requires Inv-loop μ-loop
-word-exec-requires c κs = search needs
+mul-cells : tie.Need-mul-cells Inv-loop μ-loop
+mul-cells c = search needs
+
+shared-slice-read-cells : tie.Need-shared-slice-read-cells Inv-loop μ-loop
+shared-slice-read-cells c =
+    let words = now (c .before .before .before .before .before .before .before .before .args .words) in
+    let i = c .before .before .before .before .loop .i in
+    let turn = rands-turn words i (omega arith) in
+    omega (arith, takes-rand (getD words i 0) (c .before .before .before .before .before .before .before .before .pre .1 .1 i (omega arith)) (c .before .if1 .taken), c .before .before .before .before .before .before .before .before .pre .0)
+
+mul-cells-2 : tie.Need-mul-cells-2 Inv-loop μ-loop
+mul-cells-2 c = search needs
+
+slice-write-cells : tie.Need-slice-write-cells Inv-loop μ-loop
+slice-write-cells c = search needs
 
 add-t : tie.Need-add-t Inv-loop μ-loop
-add-t c =
-    let words = now (c .before .before .before .before .before .before .before .before .before .before .before .args .words) in
-    let i = c .before .before .before .before .before .before .before .loop .i in
-    let turn = rands-turn words i (omega arith) in
-    let is = c .before .before .word-exec .ensures .0 in
-    omega (arith, c .before .before .before .before .before .before .before .before .before .before .before .pre)
+add-t c = search needs
+
+word-exec-requires : tie.Need-word-exec-requires Inv-loop μ-loop
+word-exec-requires c κs =
+    let l = c .before .before .before .before .loop in
+    (l .inv .2 ∙ c .before .before .before .before .before .before .before .before .pre .1 .0, (c .before .before .before .before .before .before .before .before .pre .1 .1 (l .i) (omega arith), c .before .if1 .left))
 
 add-i : tie.Need-add-i Inv-loop μ-loop
 add-i c = search needs
@@ -54,20 +69,30 @@ loop-less c = search needs
 
 loop-again : tie.Need-loop-again Inv-loop μ-loop
 loop-again c =
-    let a = c .before .before .before .before .before .before .before .before .before .before .before .args in
+    let a = c .before .before .before .before .before .before .before .args in
     let words = now (a .words) in
-    let l = c .before .before .before .before .before .before .before .loop in
+    let l = c .before .before .before .loop in
+    let w = getD words (l .i) 0 in
+    let g = c .before .before .before .before .before .before .before .pre .1 .1 (l .i) (omega arith) in
     let turn = rands-turn words (l .i) (omega arith) in
-    let is = c .before .before .word-exec .ensures in
-    let e₀ = is .0 in (
+    ⊎-elim
+    (λ h. (
       omega arith,
       refl,
-      c .before .before .word-exec .kept .1 .1 .0 ∙ l .inv .2,
+      ap length (h .2) ∙ length-set (l .cells) _ _ ∙ l .inv .2,
+      omega (arith, takes-rand w g (h .0 .taken), h .3),
+      l .inv .4 ∙ rand-turn words (l .i) (omega arith) g (now (a .tape)) (l .cells) (l .t) (h .0 .taken)
+          ∙ ap₂ (λ (k : ℕ) (r : List ℕ). exec (drop (l .i + 1) words) (drop k (now (a .tape))) r) (sym (h .3)) (sym (h .2)),
+    ))
+    (λ h. (
       omega arith,
-      l .inv .4 ∙ exec-turn words (l .i) (omega arith) (now (a .tape)) (l .cells) (l .t)
-          ∙ ap₂ (λ (k : ℕ) (r : List ℕ). exec (drop (l .i + 1) words) (drop (l .t + k) (now (a .tape))) r) (sym e₀)
-          (ap (λ (x : ℕ). exec (getD words (l .i) 0 ∷ []) (x ∷ []) (l .cells)) (sym (c .before .before .before .before .tape-word .ensures)) ∙ sym (is .1)),
-    )
+      refl,
+      ap length (h .5) ∙ h .2 .kept .1 .0 ∙ l .inv .2,
+      omega (arith, takes-none w g (h .0 .left), h .6),
+      l .inv .4 ∙ other-turn words (l .i) (omega arith) g (now (a .tape)) (l .cells) (l .t) (h .0 .left)
+          ∙ ap₂ (λ (k : ℕ) (r : List ℕ). exec (drop (l .i + 1) words) (drop k (now (a .tape))) r) (sym (h .6)) (sym (h .2 .ensures) ∙ sym (h .5)),
+    ))
+    (c .if1 .came)
 
 same-length : tie.Need-same-length Inv-loop μ-loop
 same-length c = c .before .loop .inv .2
@@ -85,11 +110,15 @@ exec-spec =
     Inv-loop
     μ-loop
     loop-holds
-    mul-word-exec
-    shared-slice-read-word-exec
-    tape-word-requires
-    word-exec-requires
+    mul-w
+    shared-slice-read-w
+    cast-d
+    mul-cells
+    shared-slice-read-cells
+    mul-cells-2
+    slice-write-cells
     add-t
+    word-exec-requires
     add-i
     loop-less
     loop-again

@@ -1,13 +1,15 @@
 -- `shares::exec::rands` meets its contract.
-use denote.Ref.{now}
-use lib.ListN.{getD, drop-of-length-le, length, drop}
 use mathlib.Core.Path.{_≡_, refl, ap}
+use mathlib.Core.Logic.{⊎-elim}
+use denote.Ref.{now}
 use Prim.Native.Nat.{_+_, _-_, _≤_}
 use native.Mathlib.Nat.{zero-add}
 use native.Mathlib.Omega.{arith}
+use lib.ListN.{length, getD, drop, drop-of-length-le}
 use borrow.Author.Needs.{needs}
 use Rattle.masking.specs.Machine.{rands}
-use Rattle.shares.proofs.Turns.{rands-one, rands-turn}
+use Rattle.shares.proofs.Turns.{rands-turn}
+use Rattle.shares.proofs.ByKind.{takes-rand, takes-none}
 use Rattle.shares.proofs.exec.rands.Statement.{statement}
 use Rattle.shares.proofs.exec.rands.Tie as tie
 
@@ -21,19 +23,14 @@ abbrev μ-loop : tie.MeasureT-loop
 loop-holds : tie.Need-loop-holds Inv-loop μ-loop
 loop-holds c = (omega arith, refl, omega arith, zero-add _)
 
-mul-word-takes : tie.Need-mul-word-takes Inv-loop μ-loop
-mul-word-takes c = search needs
+mul-if1 : tie.Need-mul-if1 Inv-loop μ-loop
+mul-if1 c = search needs
 
-shared-slice-read-word-takes : tie.Need-shared-slice-read-word-takes Inv-loop μ-loop
-shared-slice-read-word-takes c = search needs
-
-word-takes-requires : tie.Need-word-takes-requires Inv-loop μ-loop
-word-takes-requires c κs = search needs
+shared-slice-read-if1 : tie.Need-shared-slice-read-if1 Inv-loop μ-loop
+shared-slice-read-if1 c = search needs
 
 add-count : tie.Need-add-count Inv-loop μ-loop
-add-count c =
-    let w = getD (now (c .before .before .before .before .before .args .words)) (c .before .before .before .loop .i) 0 in
-    omega (arith, rands-one w, c .word-takes .ensures)
+add-count c = search needs
 
 add-i : tie.Need-add-i Inv-loop μ-loop
 add-i c = search needs
@@ -43,16 +40,16 @@ loop-less c = search needs
 
 loop-again : tie.Need-loop-again Inv-loop μ-loop
 loop-again c =
-    let words = now (c .before .before .before .before .before .args .words) in
+    let words = now (c .before .before .before .before .args .words) in
     let i = c .before .before .before .loop .i in
-    let one = rands-one (getD words i 0) in
     let turn = rands-turn words i (omega arith) in
-    let is = c .word-takes .ensures in
-    (omega arith, refl, omega arith, omega arith)
+    let g = c .before .before .before .before .pre i (omega arith) in
+    ⊎-elim (λ w. (omega arith, refl, omega arith, omega (arith, takes-rand (getD words i 0) g (w .0 .taken))))
+    (λ w. (omega arith, refl, omega arith, omega (arith, takes-none (getD words i 0) g (w .0 .left)))) (c .if1 .came)
 
 returns : tie.Need-returns Inv-loop μ-loop
 returns c =
-    let words = now (c .before .before .before .args .words) in
+    let words = now (c .before .before .args .words) in
     let none : rands (drop (c .before .loop .i) words) ≡ 0 = ap rands (drop-of-length-le words {i = c .before .loop .i} (omega arith)) in
     omega arith
 
@@ -63,9 +60,8 @@ rands-spec =
     Inv-loop
     μ-loop
     loop-holds
-    mul-word-takes
-    shared-slice-read-word-takes
-    word-takes-requires
+    mul-if1
+    shared-slice-read-if1
     add-count
     add-i
     loop-less

@@ -1,4 +1,9 @@
 -- `shares::run::run_answer` meets its contract.
+use native.Mathlib.Nat.{le-antisymm}
+use Rattle.word.specs.Word.{programStep}
+use Rattle.word.proofs.Checking.{first-bad}
+use Rattle.shares.proofs.ByKind.{all-good, part-good}
+-- `shares::run::run_answer` meets its contract.
 use denote.Ref.{now}
 use Prim.Native.Nat.{ℕ, _+_, _-_}
 use lib.ListN.{take, drop}
@@ -77,7 +82,11 @@ part-rands-end : tie.Need-part-rands-end
 part-rands-end c = search needs
 
 rands-requires : tie.Need-rands-requires
-rands-requires c κs = search needs
+rands-requires c κs =
+    let a = c .before .before .before .before .before .before .before .before .before .before .before .args in
+    let P = now (a .program) in
+    let f = c .before .before .before .before .before .before .program-first-bad .ensures in
+    part-good P (a .place) (a .place + c .before .smaller .result - a .place) (all-good P (le-antisymm (first-bad programStep P .within) (rw f at (c .before .before .before .before .before .if2 .left))))
 
 sub-if6 : tie.Need-sub-if6
 sub-if6 c = search needs

@@ -1,4 +1,6 @@
 -- `shares::run::share_run` meets its contract.
+use Rattle.shares.proofs.ByKind.{all-good, part-good}
+-- `shares::run::share_run` meets its contract.
 use mathlib.Core.Path.{_≡_, ap, _∙_}
 use denote.Ref.{now}
 use Prim.Native.Nat.{ℕ, _+_, _-_}
@@ -68,7 +70,7 @@ exec-requires c κs =
     let P = now (a .program) in
     let e : take (a .place + c .before .before .before .before .before .before .run-answer .result .words - a .place) (drop (a .place) P) ≡ due P (a .place) (a .budget) =
     ap (λ (k : ℕ). take (a .place + k - a .place) (drop (a .place) P)) (r .words) ∙ due-part P (a .place) (a .budget) in
-    rw (e, rest-part (now (a .tape)) (a .tape-place), length-drop) (r .enough)
+    (rw (e, rest-part (now (a .tape)) (a .tape-place), length-drop) (r .enough), (r .size, part-good P (a .place) (a .place + c .before .before .before .before .before .before .run-answer .result .words - a .place) (all-good P (r .good))))
 
 same-length : tie.Need-same-length
 same-length c = search needs
