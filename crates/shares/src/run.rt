@@ -6,7 +6,7 @@ ghost use Rattle.shares.specs.Calls.{standing};
 use crate::exec::exec;
 use crate::exec::rands;
 use word::answer::Answer;
-use word::check::program_first_bad;
+use word::program_check::program_first_bad;
 use word::step_word::StepWord;
 
 fn smaller(a: usize, b: usize) -> usize

@@ -1,5 +1,6 @@
 -- The search for the first bad word, over any way of taking words apart: its turns, and that the place found is that of the first bad word.
 use mathlib.Core.Path.{_≡_, refl, sym, ap, _∙_}
+use mathlib.Core.Bool.{Bool, true, false, cond}
 use mathlib.Core.List.{List, [], _∷_}
 use Prim.Native.Nat.{ℕ, zero, suc, _+_, _≤_, _<_}
 use native.Mathlib.Nat.{add-zero}
@@ -10,6 +11,7 @@ use lib.Seq.{drop-cons}
 use Rattle.word.specs.declared.step.Step.{Step}
 use Rattle.word.specs.declared.step.Decoded.{Decoded}
 use Rattle.word.specs.declared.step.Decoded.the-variants.{Good, Bad}
+use Rattle.word.specs.Word.{isGood}
 use Rattle.word.specs.Answers.{firstOf, firstBad, FirstBad, FirstBadFound}
 
 module _ (step : ℕ → Decoded) (l : List ℕ) (i : ℕ) where
@@ -32,6 +34,22 @@ module _ (step : ℕ → Decoded) (l : List ℕ) (i : ℕ) where
   -- or at the end
   pub at-end : Passed → length l ≤ i → i ≡ firstBad step l
   at-end h le = sym (h ∙ ap (λ (r : List ℕ). i + firstBad step r) (drop-of-length-le l le) ∙ add-zero i)
+
+-- the turns of a search that only asks whether a word is good
+good-step : (d : Decoded) → isGood d ≡ true → (s : Step) × (d ≡ Good s)
+good-step (Good s) e = (s, refl)
+good-step Bad e = let z : _≡_ {A = ℕ} 0 1 = ap (λ (b : Bool). cond {A = ℕ} b 1 0) e in absurd (omega arith)
+
+bad-step : (d : Decoded) → isGood d ≡ false → d ≡ Bad
+bad-step (Good s) e = let z : _≡_ {A = ℕ} 1 0 = ap (λ (b : Bool). cond {A = ℕ} b 1 0) e in absurd (omega arith)
+bad-step Bad e = refl
+
+module _ (step : ℕ → Decoded) (l : List ℕ) (i : ℕ) where
+  pub asked-one : Passed step l i → i < length l → isGood (step (getD l i 0)) ≡ true → firstBad step l ≡ i + 1 + firstBad step (drop (i + 1) l)
+  asked-one h lt e = let q = good-step (step (getD l i 0)) e in passed-one step l i h lt (q .1)
+
+  pub asked-bad : Passed step l i → i < length l → isGood (step (getD l i 0)) ≡ false → i ≡ firstBad step l
+  asked-bad h lt e = at-bad step l i h lt (bad-step (step (getD l i 0)) e)
 
 -- the place is that of the first bad word, and the end only where there is none
 pub first-bad : FirstBadFound

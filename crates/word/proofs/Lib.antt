@@ -2,3 +2,4 @@
 pub mod Checking
 pub mod Small
 pub mod Together
+pub mod Quick

@@ -95,6 +95,11 @@ planStep w = taken inPlan w
 abbrev pub programStep : ℕ → Decoded
 programStep w = taken inProgram w
 
+-- whether a word taken apart was good
+abbrev pub isGood : Decoded → Bool
+isGood (Good s) = true
+isGood Bad = false
+
 -- putting together: the kind keeps four bits and a field nine
 unfoldable pub put : ℕ → ℕ → ℕ → ℕ → ℕ
 put k d a b = k % 16 * 2 ^ 28 + d % 512 * 2 ^ 18 + a % 512 * 2 ^ 9 + b % 512

@@ -1,7 +1,7 @@
 // Checking: the search for the first bad word of a plan or of a share program.
 ghost use mathlib.Core.Path.{_≡_};
 ghost use Rattle.word.specs.Answers.{firstBad};
-ghost use Rattle.word.specs.Word.{planStep, ruleFor, programStep, taken};
+ghost use Rattle.word.specs.Word.{planStep, ruleFor, taken};
 use crate::step::Decoded;
 use crate::step_word::StepWord;
 
@@ -26,11 +26,4 @@ pub fn plan_first_bad(plan: &[u32]) -> usize
     ensures { λ r. ⌜ r ≡ firstBad planStep (now (plan .entry)) ⌝ }
 {
     first_bad(plan, false)
-}
-
-// The place of the share program's first bad word, or the program's end where no word is bad.
-pub fn program_first_bad(program: &[u32]) -> usize
-    ensures { λ r. ⌜ r ≡ firstBad programStep (now (program .entry)) ⌝ }
-{
-    first_bad(program, true)
 }

@@ -2,6 +2,7 @@
 // word's own type. `specs/` has the definitions that the contracts cite.
 pub mod answer;
 pub mod check;
+pub mod program_check;
 pub mod step;
 pub mod step_rule;
 pub mod step_word;

@@ -1,7 +1,7 @@
 // The step word's own type: its bit places, the cells and limits that go with it, and taking it apart and putting it together.
 ghost use mathlib.Core.Path.{_≡_};
 ghost use Rattle.word.specs.Word as spec;
-ghost use Rattle.word.specs.Word.{kindOf, bit27, fieldD, fieldA, fieldB, planStep, ruleFor, programStep, wordOf};
+ghost use Rattle.word.specs.Word.{kindOf, bit27, fieldD, fieldA, fieldB, isGood, planStep, ruleFor, programStep, wordOf};
 ghost use Rattle.word.specs.Layout as layout;
 use crate::step::Decoded;
 use crate::step::Step;
@@ -118,6 +118,28 @@ impl StepWord {
         ensures { λ r. ⌜ r ≡ programStep (self .bits) ⌝ }
     {
         self.step_in(true)
+    }
+
+    // Whether a share program's word is good, by its kind and fields alone: what checking a whole program asks.
+    pub fn is_program_word(self) -> bool
+        ensures { λ r. ⌜ r ≡ isGood (programStep (self .bits)) ⌝ }
+    {
+        let w = self.bits;
+        if (w >> StepWord::ZERO_AT) % 2 != 0 {
+            return false;
+        }
+        let kind = w >> StepWord::KIND_AT;
+        match kind {
+            1 => true,
+            2 => true,
+            3 => true,
+            4 => w % StepWord::FIELD == 0,
+            5 => w % StepWord::FIELD < 64,
+            6 => w % StepWord::FIELD < 64,
+            7 => w % StepWord::FIELD == 0,
+            9 => w % 262144 == 0,
+            _ => false,
+        }
     }
 
     // The word of a step, each field kept to its nine bits.
