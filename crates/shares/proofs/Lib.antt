@@ -1,4 +1,13 @@
--- Lemmas of no one function: one turn of a loop over share words (Turns), what holds where a share run is done (Done), a good word by its kind (ByKind), and the bounds on what is reported (Bounds).
+-- Laws for the proofs of the functions. Measure and Translate: writing in parts (Emission), steps by kind (Steps), the shares and pairs
+-- that are left (Rising), AND's and ADD's steps in parts (Laid), a plan's share program word by word (Program), the sums over a plan and
+-- the answers (Counted). Share run: one turn of a loop over share words (Turns), a good word by its kind (ByKind), what holds where a run
+-- is done (Done), and the bounds on what it reports (Bounds).
+pub mod Emission
+pub mod Steps
+pub mod Rising
+pub mod Laid
+pub mod Program
+pub mod Counted
 pub mod Turns
 pub mod ByKind
 pub mod Done

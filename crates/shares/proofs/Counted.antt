@@ -1,0 +1,128 @@
+-- The sums over a plan's words (Measure), and what the answers say of the plan. Assumes nothing.
+use mathlib.Core.Path.{_≡_, refl, sym, ap, _∙_}
+use mathlib.Core.Bool.{Bool, true, false, cond, not, _&&_}
+use mathlib.Core.List.{List, _∷_}
+use Prim.Native.Nat.{ℕ, _+_, _-_, _*_, _/_, _≤_, _<_}
+use native.Mathlib.Nat.{mul-le-mul-left}
+use native.Mathlib.Numerals.{add-one}
+use native.Mathlib.Omega.{arith}
+use lib.Dec.{eqb, leb, ltb}
+use lib.ListN.{length, drop, getD}
+use lib.Seq.{drop-cons}
+use borrow.Author.Tests.{ltb-false, leb-true}
+use Rattle.word.specs.declared.answer.Answer.{Answer}
+use Rattle.word.specs.Word.{planStep, kindOf}
+use Rattle.word.specs.Layout.{lengthOf, tapeOf, planMax}
+use Rattle.word.specs.Answers.{firstBad, refused, badAt, given}
+use Rattle.word.proofs.Checking.{first-bad}
+use Rattle.masking.specs.Foretold.{Accepted, foretoldWords, foretoldTape}
+use Rattle.shares.specs.Calls.{planChecked, measured, translateAnswer}
+
+-- ---- sums
+
+module _ (n : ℕ) (most : n ≤ 8) where
+  -- no plan word gives more than ADD's share words and tape words for eight shares
+  pub length-le : (k : ℕ) → lengthOf k n ≤ 3816
+  unfolding lengthOf
+  length-le k = by (eqb k 3) (eqb k 8) (mul-le-mul-left n most)
+    where
+      by : (p q : Bool) → n * n ≤ n * 8 → cond p (5 * (n * n) - 2 * n) (cond q (60 * (n * n) - 3 * n) n) ≤ 3816
+      by true q h = omega arith
+      by false true h = omega arith
+      by false false h = omega arith
+
+  pub tape-le : (k : ℕ) → tapeOf k n ≤ 768
+  unfolding tapeOf
+  tape-le k = by (eqb k 3) (eqb k 8) (n * (n - 1)) (mul-le-mul-left n (omega arith))
+    where
+      by : (p q : Bool) (m : ℕ) → m ≤ n * 8 → cond p (2 * (m / 2)) (cond q (24 * (m / 2)) 0) ≤ 768
+      by true q m h = omega arith
+      by false true m h = omega arith
+      by false false m h = omega arith
+
+-- what the first i words count, and what is left
+pub record Summed (n : ℕ) (plan : List ℕ) (words tape i : ℕ) : Type 0 where
+  pub words-left : words + foretoldWords n (drop i plan) ≡ foretoldWords n plan
+  pub tape-left : tape + foretoldTape n (drop i plan) ≡ foretoldTape n plan
+  pub words-small : words ≤ 3816 * i
+  pub tape-small : tape ≤ 768 * i
+
+pub summed : (n : ℕ) (plan : List ℕ) → Summed n plan 0 0 0
+summed n plan = record { words-left = omega arith; tape-left = omega arith; words-small = omega arith; tape-small = omega arith }
+
+pub summed-on : (n : ℕ) (most : n ≤ 8) (plan : List ℕ) {words tape : ℕ} (i : ℕ) → Summed n plan words tape i → i < length plan
+    → Summed n plan (words + lengthOf (kindOf (getD plan i 0)) n) (tape + tapeOf (kindOf (getD plan i 0)) n) (i + 1)
+summed-on n most plan i s l =
+    let w = getD plan i 0 in
+    let d : drop i plan ≡ w ∷ drop (i + 1) plan = drop-cons plan i 0 l ∙ ap (λ (k : ℕ). w ∷ drop k plan) (sym (add-one i)) in
+    record {
+      words-left = omega (arith, s .words-left, ap (foretoldWords n) d);
+      tape-left = omega (arith, s .tape-left, ap (foretoldTape n) d);
+      words-small = omega (arith, s .words-small, length-le n most (kindOf w));
+      tape-small = omega (arith, s .tape-small, tape-le n most (kindOf w));
+    }
+
+-- ---- answers
+
+-- the turn-downs in number order, by their tests
+abbrev tested : Bool → Bool → Bool → ℕ → Answer → Answer
+tested p q r b next = given p (refused 1) (given q (refused 2) (given r (badAt b) next))
+
+tested-done : (p q r : Bool) (b : ℕ) (x : Answer) → tested p q r b x .number ≡ 0 → (p ≡ false) × (q ≡ false) × (r ≡ false)
+tested-done true q r b x h = absurd (omega arith)
+tested-done false true r b x h = absurd (omega arith)
+tested-done false false true b x h = absurd (omega arith)
+tested-done false false false b x h = (refl, refl, refl)
+
+tested-down : (p q r : Bool) (b : ℕ) (x y : Answer) → x .number ≡ 0 → (tested p q r b x .number ≡ 0 → ⊥) → tested p q r b x ≡ tested p q r b y
+tested-down true q r b x y z h = refl
+tested-down false true r b x y z h = refl
+tested-down false false true b x y z h = refl
+tested-down false false false b x y z h = absurd (h z)
+
+not-false : (p : Bool) → not p ≡ false → p ≡ true
+not-false true e = refl
+not-false false e = sym e
+
+both-true : (p q : Bool) → (p && q) ≡ true → (p ≡ true) × (q ≡ true)
+both-true true q e = (refl, e)
+both-true false q e = let z : _≡_ {A = ℕ} 0 1 = cc in absurd (omega arith)
+
+pub in-range : (n : ℕ) → not (leb 2 n && leb n 8) ≡ false → (2 ≤ n) × (n ≤ 8)
+in-range n e =
+    let b = both-true (leb 2 n) (leb n 8) (not-false (leb 2 n && leb n 8) e) in
+    (leb-true 2 n (b .0), leb-true n 8 (b .1))
+
+module _ (n : ℕ) (plan : List ℕ) (x : Answer) where
+  -- a plan that is turned down is so whatever comes next
+  pub turned-down : (y : Answer) → x .number ≡ 0 → (planChecked n plan x .number ≡ 0 → ⊥) → planChecked n plan x ≡ planChecked n plan y
+  unfolding planChecked
+  turned-down y = tested-down (not (leb 2 n && leb n 8)) (ltb planMax (length plan)) (ltb (firstBad planStep plan) (length plan)) (firstBad planStep plan) x y
+
+  module _ (h : planChecked n plan x .number ≡ 0) where
+    passes : (not (leb 2 n && leb n 8) ≡ false) × (ltb planMax (length plan) ≡ false) × (ltb (firstBad planStep plan) (length plan) ≡ false)
+    unfolding planChecked
+    passes = tested-done (not (leb 2 n && leb n 8)) (ltb planMax (length plan)) (ltb (firstBad planStep plan) (length plan)) (firstBad planStep plan) x h
+
+    -- one that is not is accepted, and what comes next is the answer
+    pub next-answer : (y : Answer) → planChecked n plan y ≡ y
+    unfolding planChecked
+    next-answer y = rw (passes .0, passes .1, passes .2)
+
+    pub accepted : Accepted n plan
+    accepted =
+        let l : length plan ≤ firstBad planStep plan = ltb-false _ _ (passes .2) in
+        record {
+          least = in-range n (passes .0) .0;
+          most = in-range n (passes .0) .1;
+          short = ltb-false _ _ (passes .1);
+          good = omega (arith, l, first-bad planStep plan .within);
+        }
+
+-- the output is as long as measured
+pub enough : (n : ℕ) (plan : List ℕ) (room : ℕ) → translateAnswer n plan room .number ≡ 0 → foretoldWords n plan ≤ room
+enough n plan room h = ltb-false _ _ (by (ltb room (foretoldWords n plan)) (sym (ap (λ (a : Answer). a .number) (next-answer n plan _ h _)) ∙ h))
+  where
+    by : (p : Bool) → given p (refused 4) (measured n plan) .number ≡ 0 → p ≡ false
+    by true e = absurd (omega arith)
+    by false e = refl
