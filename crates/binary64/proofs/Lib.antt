@@ -11,6 +11,7 @@ pub mod SumCases
 pub mod FloorModel
 pub mod Meaning
 pub mod FloorMeaning
+pub mod Corners
 pub mod IeeeRound
 pub mod Ieee
 pub mod Edges

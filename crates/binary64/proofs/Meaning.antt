@@ -1,10 +1,10 @@
--- The definitions mean what document 01 says: the theorems of specs/Meaning. Rests on Round and FloorModel.
+-- Rounding means what document 01 says: the theorem of specs/Meaning on it, the limit at E = 2047 included. Rests on Round.
 use mathlib.Core.Path.{_≡_, sym, ap, ap₂, _∙_, subst}
 use mathlib.Core.Logic.{inl, inr}
 use Prim.Native.Nat.{ℕ, zero, suc, _+_, _-_, _*_, _/_, _%_, _^_, _≤_, _<_, compare, Ordering, Ordering·lt, Ordering·eq, Ordering·gt}
-use native.Mathlib.Nat.{le-trans, le-of-eq, le-of-lt, lt-of-lt-of-le, mul-assoc, mul-le-mul-right, div-add-mod', mod-lt, eq-or-lt-of-le, pow-suc}
+use native.Mathlib.Nat.{le-trans, le-of-eq, le-of-lt, lt-of-lt-of-le, lt-of-le-of-lt, not-le-of-lt, mul-assoc, mul-le-mul-right, div-add-mod', mod-lt, eq-or-lt-of-le, pow-suc}
 use native.Mathlib.Omega.{arith}
-use lib.Pow.{pow-pos, pow-add, pow-mono}
+use lib.Pow.{pow-pos, pow-add, pow-mono, pow-lt, shl-lt}
 use lib.Ieee.{size, nearest}
 use lib.Ieee.Digits.{size-lt, size-reaches}
 use lib.Ieee.Nearest.{closest}
@@ -107,7 +107,50 @@ packed-reads s e q lo hi h =
     carried : (d p : ℕ) → d ≡ p * 2 → (2 ^ 52 + 0) * d ≡ 2 ^ 53 * p
     carried d p z = omega arith
 
--- ---- rounding
+-- ---- the limit: E - 1 = e and a significand q against the exponent 2047, over the unit 2^k
+module _ (u e q k : ℕ) (unit : suc (e + u) ≡ 53 + k) (lo : 2 ^ 52 ≤ q) (hi : q ≤ 2 ^ 53) where
+  under-limit : e * 2 ^ 52 + q < 2047 * 2 ^ 52 → q * 2 ^ k < 2 ^ (u + 2046)
+  under-limit h =
+      elim (eq-or-lt-of-le hi) [
+        | inl z ↦
+            lt-of-le-of-lt (le-of-eq (ap (λ (x : ℕ). x * 2 ^ k) z ∙ sym (pow-add 2 53 k))) (pow-lt {i = 53 + k} {j = u + 2046} (omega arith))
+        | inr l ↦ lt-of-lt-of-le (shl-lt 53 k l) (pow-mono {i = 53 + k} {j = u + 2046} (omega arith))
+      ]
+
+  over-limit : 2047 * 2 ^ 52 ≤ e * 2 ^ 52 + q → 2 ^ (u + 2046) ≤ q * 2 ^ k
+  over-limit h =
+      elim (eq-or-lt-of-le hi) [
+        | inl z ↦ le-trans (pow-mono {i = u + 2046} {j = 53 + k} (omega arith)) (le-of-eq (pow-add 2 53 k ∙ ap (λ (x : ℕ). x * 2 ^ k) (sym z)))
+        | inr l ↦
+            le-trans (pow-mono {i = u + 2046} {j = 52 + k} (omega arith)) (le-trans (le-of-eq (pow-add 2 52 k)) (mul-le-mul-right (2 ^ k) lo))
+      ]
+
+-- ---- rounding: z is the length of M
+module _ (u z q r : ℕ) (h52 : 52 ≤ u) (g : u < z) (lo : 2 ^ 52 ≤ q) (hi : q ≤ 2 ^ 53) (b : r ≡ packed (z - suc u) q) where
+  unit : suc (z - suc u + u) ≡ 53 + (z - 53)
+  unit = omega arith
+
+  limits : 2 ^ (u + 2046) ≤ q * 2 ^ (z - 53) → r ≡ 2047 * 2 ^ 52
+  limits h =
+      elim (lt-or-ge ((z - suc u) * 2 ^ 52 + q) (2047 * 2 ^ 52)) [
+        | inl l ↦ absurd (not-le-of-lt (under-limit u (z - suc u) q (z - 53) unit lo hi l) h)
+        | inr l ↦ omega arith
+      ]
+
+  readable : q * 2 ^ (z - 53) < 2 ^ (u + 2046) → (r < 2047 * 2 ^ 52) × (magnitude r * 2 ^ (u - 52) ≡ q * 2 ^ (z - 53))
+  readable h =
+      elim (lt-or-ge ((z - suc u) * 2 ^ 52 + q) (2047 * 2 ^ 52)) [
+        | inl l ↦
+            let e = z - suc u in
+            let m : r ≡ signed 0 (e * 2 ^ 52 + q) = omega arith in
+            let k : e + (u - 52) ≡ z - 53 = omega arith in (
+              omega arith,
+              ap (λ (x : ℕ). magnitude x * 2 ^ (u - 52)) m ∙ ap (λ (x : ℕ). x * 2 ^ (u - 52)) (packed-reads 0 e q lo hi l)
+                  ∙ mul-assoc q (2 ^ e) (2 ^ (u - 52)) ∙ ap (λ (x : ℕ). q * x) (sym (pow-add 2 e (u - 52)) ∙ ap (λ (x : ℕ). 2 ^ x) k),
+            )
+        | inr l ↦ absurd (not-le-of-lt h (over-limit u (z - suc u) q (z - 53) unit lo hi l))
+      ]
+
 pub rounding-means : RoundingMeans
 rounding-means u M h52 h =
     let g : u < size M = size-gt M u h in
@@ -115,18 +158,12 @@ rounding-means u M h52 h =
     let e₁ : size M - 1 < size M = omega arith in
     let e₂ : 52 + (size M - 53) ≡ size M - 1 = omega arith in
     let e₃ : 53 + (size M - 53) ≡ size M = omega arith in
+    let lo : 2 ^ 52 ≤ significand M = significand-ge M big in
     let b : magBits u M ≡ packed (size M - suc u) (significand M) = magBits-min u M h52 ∙ if-not-lt M (2 ^ u) 0 (packed (size M - suc u) (significand M)) h in
     record {
       kept-low = le-trans (le-of-eq (sym (pow-add 2 52 (size M - 53)) ∙ ap (λ (x : ℕ). 2 ^ x) e₂)) (size-reaches M (size M - 1) e₁);
       kept-high = lt-of-lt-of-le (size-lt M) (le-of-eq (ap (λ (x : ℕ). 2 ^ x) (sym e₃) ∙ pow-add 2 53 (size M - 53)));
       nearest = closest-nearest M (size M - 53);
-      reads = λ l. reading u (size M) (significand M) (magBits u M) h52 g (significand-ge M big) (significand-le M) b l;
+      limit = limits u (size M) (significand M) (magBits u M) h52 g lo (significand-le M) b;
+      reads = readable u (size M) (significand M) (magBits u M) h52 g lo (significand-le M) b;
     }
-  where
-    reading : (u z q r : ℕ) → 52 ≤ u → u < z → 2 ^ 52 ≤ q → q ≤ 2 ^ 53 → r ≡ packed (z - suc u) q → r < 2047 * 2 ^ 52 → magnitude r * 2 ^ (u - 52) ≡ q * 2 ^ (z - 53)
-    reading u z q r h52 g lo hi b l =
-        let e = z - suc u in
-        let m : r ≡ signed 0 (e * 2 ^ 52 + q) = omega arith in
-        let k : e + (u - 52) ≡ z - 53 = omega arith in
-        ap (λ (x : ℕ). magnitude x * 2 ^ (u - 52)) m ∙ ap (λ (x : ℕ). x * 2 ^ (u - 52)) (packed-reads 0 e q lo hi (omega arith))
-        ∙ mul-assoc q (2 ^ e) (2 ^ (u - 52)) ∙ ap (λ (x : ℕ). q * x) (sym (pow-add 2 e (u - 52)) ∙ ap (λ (x : ℕ). 2 ^ x) k)

@@ -79,9 +79,13 @@ magBits-min u M h52 =
           ∙ sym (if-not-lt M (2 ^ u) 0 (packed (size M - suc u) (significand M)) l)
     ]
 
-pub bits-zero : (u : ℕ) → magBits u 0 ≡ 0
+-- below 2^u nothing is left, whatever it would be rounded to
+pub bits-small : (u M : ℕ) → M < 2 ^ u → magBits u M ≡ 0
 unfolding magBits
-bits-zero u = if-lt 0 (2 ^ u) 0 (limited (roundedE u 0) (roundedF 0)) (pow-pos u)
+bits-small u M h = if-lt M (2 ^ u) 0 (limited (roundedE u M) (roundedF M)) h
+
+pub bits-zero : (u : ℕ) → magBits u 0 ≡ 0
+bits-zero u = bits-small u 0 (pow-pos u)
 
 pub bits-lt : (u M : ℕ) → 52 ≤ u → magBits u M < 2 ^ 63
 bits-lt u M h =
@@ -97,7 +101,7 @@ bits-lt u M h =
 -- ---- M's top bit has place c
 module _ (u M c : ℕ) (h52 : 52 ≤ u) (lo : 2 ^ c ≤ M) (hi : M < 2 ^ suc c) where
   pub bits-under : c < u → magBits u M ≡ 0
-  bits-under h = magBits-min u M h52 ∙ if-lt M (2 ^ u) 0 (packed (size M - suc u) (significand M)) (lt-of-lt-of-le hi (pow-mono h))
+  bits-under h = bits-small u M (lt-of-lt-of-le hi (pow-mono h))
 
   pub bits-over : u ≤ c → magBits u M ≡ packed (c - u) (roundNE M (c - 52))
   unfolding roundNE

@@ -5,13 +5,13 @@ use lib.Dec.{ltb, leb, eqb}
 use Rattle.binary64.specs.Number.{sign, expo, magnitude, signed}
 use Rattle.binary64.specs.Rounding.{magBits}
 
--- "the greatest whole number not above the operand": its magnitude, for a sign s and a magnitude m in units of which 2^u make 1.
+-- "the greatest whole number not above the operand": its magnitude, for a sign s and a magnitude m in units of which 2^p make 1.
 -- Below zero that is the least whole number not below m.
 abbrev pub wholeOf : ℕ → ℕ → ℕ → ℕ
-wholeOf u s m = cond (eqb s 0) (m / 2 ^ u) (m / 2 ^ u + min (m % 2 ^ u) 1)
+wholeOf p s m = cond (eqb s 0) (m / 2 ^ p) (m / 2 ^ p + min (m % 2 ^ p) 1)
 
 -- "E ≥ 1075 returns the operand. E < 1023 gives plus zero for s = 0 and −1 for s = 1, minus zero among them. Between, .."
--- A whole number here has at most 53 significant bits, so that `magBits` gives it as it is (proved).
+-- A whole number here has at most 53 significant bits, so that `magBits` gives it as it is: `FloorMeans`, in Meaning, says that the result reads as that number.
 unfoldable pub floor : ℕ → ℕ
 floor a =
     cond (leb 1075 (expo a)) a

@@ -1,5 +1,11 @@
 -- Agreement with IEEE 754, as statements. `mul`, `add`, `ofBits` and `toBits` at `binary64` are the toolchain library's own IEEE 754 operations.
--- Document 01 departs from IEEE 754 in subnormal numbers and in infinities and NaN; wherever both apply they agree, overflow to E = 2047, F = 0 (an infinity there) and the signs of zeros included.
+-- They cover operands that are zeros or normal numbers, wherever the exact result is zero or not below 2^-1022 in magnitude;
+-- overflow to E = 2047, F = 0 (an infinity there) and the signs of zeros are included. Outside, document 01 departs from IEEE 754 in these places:
+-- - An operand with E = 0, F ≠ 0 is a zero here, a subnormal number there.
+-- - An exact result that is not zero and below 2^-1022 is a zero of its sign here. There it is rounded to a multiple of 2^-1074: to a zero or a subnormal number,
+--   or, if it is a product just below 2^-1022, to that least normal number (0010000000000001 times 3FEFFFFFFFFFFFFE; 001FFFFFFFFFFFFF times 3FE0000000000000).
+-- - An operand with E = 2047 is a number here, an infinity or NaN there.
+-- - The floor of minus zero is -1 here, minus zero there. Floor has no statement in this file: Meaning says what it is.
 use mathlib.Core.Path.{_≡_}
 use mathlib.Core.Logic.{_⊎_}
 use mathlib.Core.Bool.{cond}

@@ -1,4 +1,6 @@
 -- Document 01's numbers: what a word stands for (Number), rounding (Rounding), the three operations, and the table of edges.
+-- Statements about them: that rounding and floor mean what the paper says (Meaning), its sentences on zeros, underflow, cancellation and E = 2047 (Corners),
+-- and where product and sum are IEEE 754's (Ieee).
 -- Steps has names for intermediate numbers only.
 pub mod Number
 pub mod Rounding
@@ -6,6 +8,7 @@ pub mod Product
 pub mod Sum
 pub mod Floor
 pub mod Meaning
+pub mod Corners
 pub mod Edges
 pub mod Ieee
 pub mod Steps

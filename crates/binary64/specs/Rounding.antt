@@ -7,7 +7,7 @@ use lib.Dec.{ltb, leb, eqb}
 use lib.Ieee.{size}
 use lib.Ieee.Nearest.{closest}
 
--- "rounded to 53 significant bits, nearest, ties to even": q multiples of 2^(size M - 53). 2^52 ≤ q ≤ 2^53.
+-- "rounded to 53 significant bits, nearest, ties to even": q multiples of 2^(size M - 53). 2^52 ≤ q ≤ 2^53 where 2^52 ≤ M.
 abbrev pub significand : ℕ → ℕ
 significand M = closest M (2 ^ (size M - 53))
 
@@ -19,10 +19,11 @@ roundedE u M = size M - u + cond (eqb (significand M) (2 ^ 53)) 1 0
 unfoldable pub roundedF : ℕ → ℕ
 roundedF M = significand M % 2 ^ 52
 
--- "If the rounded E would be 2047 or more, the answer has E = 2047, F = 0."
+-- bits 62..0 from E and F
 abbrev pub fields : ℕ → ℕ → ℕ
 fields E F = E * 2 ^ 52 + F
 
+-- "If the rounded E would be 2047 or more, the answer has E = 2047, F = 0."
 abbrev pub limited : ℕ → ℕ → ℕ
 limited E F = cond (leb 2047 E) (fields 2047 0) (fields E F)
 

@@ -23,6 +23,7 @@ packed e q = min (e * 2 ^ 52 + q) (2047 * 2 ^ 52)
 unfoldable pub encodedAt : ℕ → ℕ → ℕ → ℕ
 encodedAt s Z e = cond (ltb e s) 0 (packed (e - s) (roundNE (Z * 2 ^ s) 11))
 
+-- the same by as many places as Z has leading zeros, for Z ≠ 0
 abbrev pub encoded : ℕ → ℕ → ℕ
 encoded Z e = encodedAt (leadingZeros 64 Z) Z e
 

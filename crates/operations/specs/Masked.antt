@@ -1,7 +1,7 @@
 -- What is proved of the operations on shares: their results join to the operation on the joined operands, and each of their steps has demand
--- 3's secrecy in terms of the operands' shares.
+-- 3's secrecy in terms of the operands' shares; and split and join.
 use mathlib.Core.Path.{_≡_}
-use mathlib.Core.List.{List}
+use mathlib.Core.List.{List, []}
 use Prim.Native.Nat.{ℕ, suc, _≤_, _<_}
 use lib.ListN.{length, getD}
 use Rattle.masking.specs.Translation.{program}
@@ -9,14 +9,20 @@ use Rattle.masking.specs.Foretold.{foretoldTape}
 use Rattle.masking.specs.Machine.{Words}
 use Rattle.masking.specs.Secrecy.{Hidden}
 use Rattle.operations.specs.Shares.{placed, resultShares}
-use Rattle.operations.specs.Splitting.{xorAll}
+use Rattle.binary64.specs.Product.{product}
+use Rattle.binary64.specs.Sum.{sum}
+use Rattle.binary64.specs.Floor.{floor}
+use Rattle.plans.specs.ProductPlan.{productPlan}
+use Rattle.plans.specs.SumPlan.{sumPlan}
+use Rattle.plans.specs.FloorPlan.{floorPlan}
+use Rattle.operations.specs.Splitting.{xorAll, splitOf, splitAnswer, splitOut, joinedWord}
 
 -- n shares
 pub record Operand (n : ℕ) (x : List ℕ) : Type 0 where
   pub size : length x ≡ n
   pub words : Words x
 
--- over any tape as long as foretold, the result joins to the operation `op` on the joined operands
+-- over any tape at least as long as foretold, the result joins to the operation `op` on the joined operands
 abbrev pub Joins : List ℕ → (ℕ → ℕ → ℕ) → Type 0
 Joins plan op =
     (n : ℕ) → 2 ≤ n → n ≤ 8 → (x y tape : List ℕ) → Operand n x → Operand n y → Words tape → foretoldTape n plan ≤ length tape
@@ -33,6 +39,33 @@ pub record StepSecret (plan : List ℕ) (n s : ℕ) : Type 0 where
 abbrev pub Secretive : List ℕ → Type 0
 Secretive plan = (n : ℕ) → 2 ≤ n → n ≤ 8 → (s : ℕ) → s < length (program n plan) → StepSecret plan n s
 
--- split and join go there and back
+-- the same for an operation with one operand, whose register 1 is zeros
+abbrev pub JoinsOne : List ℕ → (ℕ → ℕ) → Type 0
+JoinsOne plan op =
+    (n : ℕ) → 2 ≤ n → n ≤ 8 → (x tape : List ℕ) → Operand n x → Words tape → foretoldTape n plan ≤ length tape
+    → xorAll (resultShares plan n x [] tape) ≡ op (xorAll x)
+
+pub record StepSecretOne (plan : List ℕ) (n s : ℕ) : Type 0 where
+  pub share : ℕ
+  pub below : share < n
+  pub hidden : (x x′ : List ℕ) → Operand n x → Operand n x′ → getD x share 0 ≡ getD x′ share 0 → Hidden n plan s (placed x []) (placed x′ [])
+
+abbrev pub SecretiveOne : List ℕ → Type 0
+SecretiveOne plan = (n : ℕ) → 2 ≤ n → n ≤ 8 → (s : ℕ) → s < length (program n plan) → StepSecretOne plan n s
+
+-- split and join go there and back: the shares, and the calls where split is not turned down
 abbrev pub RoundTrip : Type 0
-RoundTrip = (word : ℕ) (masks : List ℕ) → xorAll (Rattle.operations.specs.Splitting.splitOf word masks) ≡ word
+RoundTrip = (word : ℕ) (masks : List ℕ) → xorAll (splitOf word masks) ≡ word
+
+abbrev pub CallsRoundTrip : Type 0
+CallsRoundTrip = (word : ℕ) (tape out : List ℕ) → splitAnswer (length out) (length tape) .number ≡ 0 → joinedWord (splitOut word tape out) ≡ word
+
+-- all that is proved of the operations on shares
+pub record Masked : Type 0 where
+  pub product-joins : Joins productPlan product
+  pub sum-joins : Joins sumPlan sum
+  pub floor-joins : JoinsOne floorPlan floor
+  pub product-secret : Secretive productPlan
+  pub sum-secret : Secretive sumPlan
+  pub floor-secret : SecretiveOne floorPlan
+  pub split-join : CallsRoundTrip

@@ -1,1 +1,2 @@
-// operations
+// Split and join, and product, sum and floor on shares.
+pub mod splitting;

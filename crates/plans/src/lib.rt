@@ -9,14 +9,18 @@ mod sum_table;
 use built_in::BuiltIn;
 use word::answer::Answer;
 ghost use mathlib.Core.Path.{_≡_};
+ghost use Rattle.plans.specs.BuiltIns.{BuiltIns};
 ghost use Rattle.plans.specs.Copy.{copyAnswer, copyOut};
 ghost use Rattle.plans.specs.ProductPlan.{productPlan};
 ghost use Rattle.plans.specs.SumPlan.{sumPlan};
 ghost use Rattle.plans.specs.FloorPlan.{floorPlan};
 
+// The plans' words are free by document 01; what holds of them is `BuiltIns`, which each copy's contract repeats.
+
 // Copies the product's plan to the front of `out`.
 pub fn copy_product(out: &mut [u32]) -> Answer
     ensures { λ r. ⌜ (r ≡ copyAnswer productPlan (now (out .entry))) × (now (out .exit) ≡ copyOut productPlan (now (out .entry))) ⌝ }
+    ensures holds { λ _. ⌜ BuiltIns ⌝ }
 {
     copy::copy(BuiltIn::Product, out)
 }
@@ -24,6 +28,7 @@ pub fn copy_product(out: &mut [u32]) -> Answer
 // Copies the sum's plan to the front of `out`.
 pub fn copy_sum(out: &mut [u32]) -> Answer
     ensures { λ r. ⌜ (r ≡ copyAnswer sumPlan (now (out .entry))) × (now (out .exit) ≡ copyOut sumPlan (now (out .entry))) ⌝ }
+    ensures holds { λ _. ⌜ BuiltIns ⌝ }
 {
     copy::copy(BuiltIn::Sum, out)
 }
@@ -31,6 +36,7 @@ pub fn copy_sum(out: &mut [u32]) -> Answer
 // Copies floor's plan to the front of `out`.
 pub fn copy_floor(out: &mut [u32]) -> Answer
     ensures { λ r. ⌜ (r ≡ copyAnswer floorPlan (now (out .entry))) × (now (out .exit) ≡ copyOut floorPlan (now (out .entry))) ⌝ }
+    ensures holds { λ _. ⌜ BuiltIns ⌝ }
 {
     copy::copy(BuiltIn::Floor, out)
 }

@@ -1,18 +1,36 @@
 -- The search for the first bad word, over any way of taking words apart: its turns, and that the place found is that of the first bad word.
-use mathlib.Core.Path.{_≡_, refl, sym, ap, _∙_}
 use mathlib.Core.Bool.{Bool, true, false, cond}
+use mathlib.Core.Path.{_≡_, refl, sym, ap, subst, _∙_}
 use mathlib.Core.List.{List, [], _∷_}
 use Prim.Native.Nat.{ℕ, zero, suc, _+_, _≤_, _<_}
 use native.Mathlib.Nat.{add-zero}
 use native.Mathlib.Numerals.{add-one}
 use native.Mathlib.Omega.{arith}
+use lib.Dec.{ltb}
 use lib.ListN.{length, getD, drop, drop-of-length-le}
 use lib.Seq.{drop-cons}
+use borrow.Author.Tests.{ltb-true, ltb-false}
 use Rattle.word.specs.declared.step.Step.{Step}
 use Rattle.word.specs.declared.step.Decoded.{Decoded}
 use Rattle.word.specs.declared.step.Decoded.the-variants.{Good, Bad}
+use Rattle.word.specs.declared.reader.Read.{Read}
+use Rattle.word.specs.declared.reader.Read.the-variants.{Word, End}
+use Rattle.word.specs.Reader.{readAt}
 use Rattle.word.specs.Word.{isGood}
 use Rattle.word.specs.Answers.{firstOf, firstBad, FirstBad, FirstBadFound}
+
+module _ (l : List ℕ) (i : ℕ) where
+  -- what a reader's finding at place i says of the list
+  abbrev pub Says : Read → Type 0
+  Says (Word w) = (i < length l) × (getD l i 0 ≡ w)
+  Says End = length l ≤ i
+
+  pub says : (r : Read) → readAt l i ≡ r → Says r
+  says r e = subst Says e (by (ltb i (length l)) refl)
+    where
+      by : (b : Bool) → ltb i (length l) ≡ b → Says (cond b (Word (getD l i 0)) End)
+      by true t = (ltb-true i (length l) t, refl)
+      by false t = ltb-false i (length l) t
 
 module _ (step : ℕ → Decoded) (l : List ℕ) (i : ℕ) where
   -- what the loop keeps: no word before place i is bad

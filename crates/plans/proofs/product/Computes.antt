@@ -4,14 +4,17 @@ use mathlib.Core.Path.{_≡_, refl, ap, ap₂, _∙_}
 use mathlib.Core.List.{List, _++_}
 use Prim.Native.Nat.{ℕ, _+_, _*_, _/_, _%_, _^_, _<_}
 use native.Mathlib.Nat.{mod-lt}
+use native.Mathlib.Omega.{arith}
 use lib.Dec.{T}
 use lib.ListN.{length, getD}
 use lib.Pow.{pow-pos}
 use Rattle.binary64.specs.Number.{expo}
 use Rattle.binary64.specs.Product.{product}
 use Rattle.plain.specs.Machine.{run}
+use Rattle.plans.specs.Computes.{Computes}
 use Rattle.plans.specs.ProductPlan.{productHead, carryRow, productRow, productRows, withExponents, highHalf, normalise, sticky, tests, roundPack, choose, productEnd, productTail, productSteps, productPlan}
 use Rattle.plans.proofs.Registers.{runSteps, run-steps, run-append, allInPlan}
+use Rattle.plans.proofs.WellFormed.{none-bad}
 use Rattle.plans.proofs.product.Operands.{signif}
 use Rattle.plans.proofs.product.High.{High, high-half, product-lt, product-ge}
 use Rattle.plans.proofs.product.End.{endW, end-run}
@@ -46,3 +49,8 @@ product-computes cells len words =
     ∙ ap₂ (λ (i j : ℕ). endW x y i j (getD r₃ 11 0)) (h .R) (h .low)
     ∙ ap (endW x y ((expo x + expo y) * 2 ^ 52 + p / 2 ^ 53) (l * 2 ^ 11)) (h .one)
     ∙ end-is x y p l ((expo x + expo y) * 2 ^ 52 + p / 2 ^ 53) (mod-lt p (pow-pos 53)) (normalised x y p (product-ge x y) (product-lt x y)) (words 0) (words 1) refl
+
+-- what holds of the plan
+pub product-plan : Computes productPlan product
+unfolding productPlan
+product-plan = record { short = omega (arith, product-length); none-bad = none-bad productSteps product-good; result = product-computes }

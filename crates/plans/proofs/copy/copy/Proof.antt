@@ -5,6 +5,7 @@ use native.Mathlib.Nat.{le-antisymm}
 use native.Mathlib.Omega.{arith}
 use lib.ListN.{length}
 use borrow.Author.Needs.{needs}
+use Rattle.plans.proofs.BuiltIns.{built-ins}
 use Rattle.word.specs.Answers.{done}
 use Rattle.plans.specs.BuiltIn.{planOf}
 use Rattle.plans.proofs.Copying.{Copied, none-copied, one-copied, all-copied, copy-refused, copy-done}
@@ -23,7 +24,7 @@ length-requires c κs = search needs
 returns : tie.Need-returns Inv-loop μ-loop
 returns c =
     let a = c .before .before .before .args in
-    copy-refused (planOf (a .plan)) (a .out .now) (subst (λ (n : ℕ). length (a .out .now) < n) (c .before .length .ensures) (c .if1 .taken))
+    (copy-refused (planOf (a .plan)) (a .out .now) (subst (λ (n : ℕ). length (a .out .now) < n) (c .before .length .ensures) (c .if1 .taken)), built-ins)
 
 loop-holds : tie.Need-loop-holds Inv-loop μ-loop
 loop-holds c =
@@ -69,7 +70,7 @@ returns-2 c =
     let room = subst (λ (x : ℕ). x ≤ length (a .out .now)) n (l .before .if1 .left) in
     let all = all-copied (planOf (a .plan)) (a .out .now) (l .loop .out) (l .loop .i) (l .loop .inv .2) room (le-antisymm (l .loop .inv .0) (c .loop-test .left) ∙ n) in
     let r = copy-done (planOf (a .plan)) (a .out .now) (l .loop .out) room all in
-    (ap (λ (x : ℕ). done x 0) n ∙ r .0, r .1)
+    ((ap (λ (x : ℕ). done x 0) n ∙ r .0, r .1), built-ins)
 
 pub copy-spec : {M : Type 1} → statement M
 copy-spec =

@@ -1,0 +1,122 @@
+-- The work slice at the start: operands of at most eight words in registers 0 and 1, all else 0. Rests on masking's Cells (stores keep words).
+use mathlib.Core.Path.{_≡_, refl, sym, ap, ap₂, _∙_}
+use mathlib.Core.List.{List, [], _∷_}
+use Prim.Native.Nat.{ℕ, zero, suc, _+_, _≤_, _<_}
+use native.Mathlib.Nat.{add-zero, zero-add}
+use native.Mathlib.Omega.{arith}
+use native.Mathlib.Decide.{decLt}
+use lib.ListN.{length, getD, set, replicate, length-set, getD-replicate, List·getD-eq-default}
+use lib.Seq.{getD-set-same, getD-set-other}
+use lib.Pow.{pow-pos}
+use Rattle.bits.specs.Ops.{xorW}
+use Rattle.bits.proofs.Xor.{xor-zero}
+use Rattle.word.specs.Layout.{cell}
+use Rattle.masking.specs.Translation.{upFrom, shares}
+use Rattle.masking.specs.Machine.{Words, Start}
+use Rattle.masking.specs.Unsplit.{xorOver, joined}
+use Rattle.masking.specs.Secrecy.{Agree}
+use Rattle.masking.proofs.joined.Cells.{set-words}
+use Rattle.masking.proofs.joined.Sums.{sum-same}
+use Rattle.operations.specs.Shares.{placedIn, placed}
+use Rattle.operations.specs.Splitting.{xorAll}
+
+-- ---- exclusive-ors of n words
+shares-from : (x : List ℕ) (s c : ℕ) (f : ℕ → ℕ) → length x ≤ c → ((j : ℕ) → f (s + j) ≡ getD x j 0) → xorOver f (upFrom s c) ≡ xorAll x
+shares-from [] s zero f l h = refl
+shares-from [] s (suc c) f l h =
+    ap₂ xorW (ap f (sym (add-zero s)) ∙ h 0) (shares-from [] (suc s) c f (omega arith) (λ j. ap f (omega arith) ∙ h (suc j))) ∙ xor-zero 0
+shares-from (v ∷ x) s zero f l h = absurd (omega arith)
+shares-from (v ∷ x) s (suc c) f l h = ap₂ xorW (ap f (sym (add-zero s)) ∙ h 0) (shares-from x (suc s) c f (omega arith) (λ j. ap f (omega arith) ∙ h (suc j)))
+
+-- words past the operand's end are 0
+all-shares : (n : ℕ) (x : List ℕ) → length x ≤ n → xorOver (λ i. getD x i 0) (shares n) ≡ xorAll x
+all-shares n x l = shares-from x 0 n (λ i. getD x i 0) l (λ j. ap (λ (k : ℕ). getD x k 0) (zero-add j))
+
+-- ---- shares into one register
+in-size : (r i : ℕ) (x cells : List ℕ) → length (placedIn r i x cells) ≡ length cells
+in-size r i [] cells = refl
+in-size r i (v ∷ x) cells = in-size r (suc i) x (set cells (cell i r) v) ∙ length-set cells (cell i r) v
+
+in-words : (r i : ℕ) (x cells : List ℕ) → Words x → Words cells → Words (placedIn r i x cells)
+in-words r i [] cells wx w = w
+in-words r i (v ∷ x) cells wx w = in-words r (suc i) x (set cells (cell i r) v) (λ k. wx (suc k)) (set-words cells (cell i r) v w (wx 0))
+
+-- a cell that is none of these shares'
+in-other : (r i : ℕ) (x cells : List ℕ) (k : ℕ) → ((j : ℕ) → i ≤ j → k ≡ cell j r → ⊥) → getD (placedIn r i x cells) k 0 ≡ getD cells k 0
+in-other r i [] cells k h = refl
+in-other r i (v ∷ x) cells k h =
+    in-other r (suc i) x (set cells (cell i r) v) k (λ j l. h j (omega arith)) ∙ getD-set-other cells (cell i r) k v 0 (h i (omega arith))
+
+-- share i + j of cells that are 0 there: past the operand's end both are 0
+in-share : (r i : ℕ) (x cells : List ℕ) (j : ℕ) → r < 32 → i + length x ≤ 8 → length cells ≡ 512 → getD cells (cell (i + j) r) 0 ≡ 0
+    → getD (placedIn r i x cells) (cell (i + j) r) 0 ≡ getD x j 0
+in-share r i [] cells j lr few size z = z
+in-share r i (v ∷ x) cells zero lr few size z =
+    in-other r (suc i) x (set cells (cell i r) v) (cell (i + 0) r) (λ j l e. omega arith)
+    ∙ ap (λ (k : ℕ). getD (set cells (cell i r) v) (cell k r) 0) (add-zero i) ∙ getD-set-same cells (cell i r) v 0 (omega arith)
+in-share r i (v ∷ x) cells (suc j) lr few size z =
+    let e : i + suc j ≡ suc i + j = omega arith in
+    ap (λ (k : ℕ). getD (placedIn r (suc i) x (set cells (cell i r) v)) (cell k r) 0) e
+    ∙ in-share r (suc i) x (set cells (cell i r) v) j lr (omega arith) (length-set cells (cell i r) v ∙ size)
+    (getD-set-other cells (cell i r) (cell (suc i + j) r) v 0 (λ q. omega arith) ∙ ap (λ (k : ℕ). getD cells (cell k r) 0) (sym e) ∙ z)
+
+-- ---- the work slice
+abbrev zeros : List ℕ
+zeros = replicate 512 0
+
+zero-at : (k : ℕ) → getD zeros k 0 ≡ 0
+zero-at k = by (decLt k 512)
+  where
+    by : Dec (k < 512) → getD zeros k 0 ≡ 0
+    by (yes h) = getD-replicate 512 k 0 0 h
+    by (no h) = List·getD-eq-default zeros 0 {n = k} (omega arith)
+
+module _ (x y : List ℕ) (fewX : length x ≤ 8) (fewY : length y ≤ 8) where
+  abbrev withX : List ℕ
+  withX = placedIn 0 0 x zeros
+
+  withX-size : length withX ≡ 512
+  withX-size = in-size 0 0 x zeros
+
+  pub register-0 : (i : ℕ) → getD (placed x y) (cell i 0) 0 ≡ getD x i 0
+  unfolding placed
+  register-0 i =
+      in-other 1 0 y withX (cell i 0) (λ j l e. omega arith)
+      ∙ ap (λ (k : ℕ). getD withX (cell k 0) 0) (sym (zero-add i))
+      ∙ in-share 0 0 x zeros i (omega arith) (omega arith) refl (zero-at (cell (0 + i) 0))
+
+  pub register-1 : (i : ℕ) → getD (placed x y) (cell i 1) 0 ≡ getD y i 0
+  unfolding placed
+  register-1 i =
+      ap (λ (k : ℕ). getD (placedIn 1 0 y withX) (cell k 1) 0) (sym (zero-add i))
+      ∙ in-share 1 0 y withX i (omega arith) (omega arith) withX-size (in-other 0 0 x zeros (cell (0 + i) 1) (λ j l e. omega arith) ∙ zero-at (cell (0 + i) 1))
+
+  pub other-register : (i r : ℕ) → 2 ≤ r → r < 32 → getD (placed x y) (cell i r) 0 ≡ 0
+  unfolding placed
+  other-register i r l h =
+      in-other 1 0 y withX (cell i r) (λ j m e. omega arith) ∙ in-other 0 0 x zeros (cell i r) (λ j m e. omega arith) ∙ zero-at (cell i r)
+
+  pub placed-start : Words x → Words y → Start (placed x y)
+  unfolding placed
+  placed-start wx wy =
+      record {
+        size = in-size 1 0 y withX ∙ withX-size;
+        words = in-words 1 0 y withX wy (in-words 0 0 x zeros wx (λ k. rw (zero-at k) (pow-pos 64)));
+      }
+
+  -- ---- joined
+  pub joins-0 : (n : ℕ) → length x ≤ n → joined n (placed x y) 0 ≡ xorAll x
+  unfolding joined
+  joins-0 n l = sum-same n (λ i. getD (placed x y) (cell i 0) 0) (λ i. getD x i 0) (λ i h. register-0 i) ∙ all-shares n x l
+
+  pub joins-1 : (n : ℕ) → length y ≤ n → joined n (placed x y) 1 ≡ xorAll y
+  unfolding joined
+  joins-1 n l = sum-same n (λ i. getD (placed x y) (cell i 1) 0) (λ i. getD y i 0) (λ i h. register-1 i) ∙ all-shares n y l
+
+-- operands that agree in a share make starts that agree in it
+pub placed-agree : (x y x′ y′ : List ℕ) → length x ≤ 8 → length y ≤ 8 → length x′ ≤ 8 → length y′ ≤ 8
+    → (i : ℕ) → getD x i 0 ≡ getD x′ i 0 → getD y i 0 ≡ getD y′ i 0 → Agree i (placed x y) (placed x′ y′)
+placed-agree x y x′ y′ lx ly lx′ ly′ i ex ey zero h = register-0 x y lx ly i ∙ ex ∙ sym (register-0 x′ y′ lx′ ly′ i)
+placed-agree x y x′ y′ lx ly lx′ ly′ i ex ey (suc zero) h = register-1 x y lx ly i ∙ ey ∙ sym (register-1 x′ y′ lx′ ly′ i)
+placed-agree x y x′ y′ lx ly lx′ ly′ i ex ey (suc (suc r)) h =
+    other-register x y lx ly i (suc (suc r)) (omega arith) h ∙ sym (other-register x′ y′ lx′ ly′ i (suc (suc r)) (omega arith) h)

@@ -1,0 +1,61 @@
+-- `operations::splitting::unmask` meets its contract: the loop keeps the exclusive-or of the shares passed.
+use mathlib.Core.Path.{_≡_, refl, ap, _∙_}
+use denote.Ref.{now}
+use Prim.Native.Nat.{ℕ, _-_, _≤_}
+use native.Mathlib.Omega.{arith}
+use lib.ListN.{length, take, getD}
+use lib.Seq.{take-all}
+use borrow.Author.Needs.{needs}
+use Rattle.bits.specs.Ops.{xorW}
+use Rattle.operations.specs.Splitting.{xorAll}
+use Rattle.operations.proofs.SplitJoin.{xor-next}
+use Rattle.operations.proofs.splitting.unmask.Statement.{statement}
+use Rattle.operations.proofs.splitting.unmask.Tie as tie
+
+abbrev Inv-loop : tie.InvT-loop
+Inv-loop shares word₀ i₀ i-end word i = (i ≤ length shares) × (i-end ≡ length shares) × (word ≡ xorAll (take i shares))
+
+abbrev μ-loop : tie.MeasureT-loop
+μ-loop shares word₀ i₀ i-end word i = length shares - i
+
+loop-holds : tie.Need-loop-holds Inv-loop μ-loop
+loop-holds c = (omega arith, refl, refl)
+
+mul-word : tie.Need-mul-word Inv-loop μ-loop
+mul-word c = search needs
+
+shared-slice-read-word : tie.Need-shared-slice-read-word Inv-loop μ-loop
+shared-slice-read-word c = search needs
+
+add-i : tie.Need-add-i Inv-loop μ-loop
+add-i c = search needs
+
+loop-less : tie.Need-loop-less Inv-loop μ-loop
+loop-less c = search needs
+
+loop-again : tie.Need-loop-again Inv-loop μ-loop
+unfolding xorW
+loop-again c =
+    let l = c .before .before in
+    let xs = l .before .args .shares .now in
+    (omega arith, refl, ap (λ (w : ℕ). xorW w (getD xs (l .loop .i) 0)) (l .loop .inv .2) ∙ xor-next xs (l .loop .i) (omega arith))
+
+returns : tie.Need-returns Inv-loop μ-loop
+returns c =
+    let l = c .before in
+    let xs = now (l .before .args .shares) in
+    l .loop .inv .2 ∙ ap xorAll (take-all (l .loop .i) xs (omega arith))
+
+pub unmask-spec : {M : Type 1} → statement M
+unmask-spec =
+    tie.close
+    (tie.spec
+    Inv-loop
+    μ-loop
+    loop-holds
+    mul-word
+    shared-slice-read-word
+    add-i
+    loop-less
+    loop-again
+    returns)

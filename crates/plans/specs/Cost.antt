@@ -1,0 +1,59 @@
+-- What a built-in plan costs on shares and what it reads, which document 01 leaves free ("Its words are the team's choice"): a ceiling on its
+-- tape words for each share count, by document 01's "2Q for each AND among them and 24Q for each ADD", 2Q = n(n−1); and that no register but
+-- the operands' is read before it is written.
+use mathlib.Core.Path.{_≡_}
+use mathlib.Core.Bool.{Bool, true, false, _&&_, _||_, cond}
+use mathlib.Core.List.{List, [], _∷_}
+use Prim.Native.Nat.{ℕ, _+_, _-_, _*_, _≤_}
+use lib.Dec.{T, eqb}
+use lib.ListN.{length}
+use Rattle.word.specs.declared.step.Step.{Step}
+use Rattle.word.specs.declared.step.Step.the-variants.{Const, Xor, And, Not, Shl, Shr, Spread, Add, Rand}
+use Rattle.word.specs.declared.step.Decoded.{Decoded}
+use Rattle.word.specs.declared.step.Decoded.the-variants.{Good, Bad}
+use Rattle.word.specs.Word.{planStep, kindOf}
+use Rattle.word.specs.Table.{dest}
+use Rattle.masking.specs.Foretold.{foretoldTape}
+
+abbrev pub memberOf : List ℕ → ℕ → Bool
+memberOf [] r = false
+memberOf (q ∷ qs) r = eqb q r || memberOf qs r
+
+-- all registers that a step reads are among those known
+abbrev pub readsKnown : List ℕ → Step → Bool
+readsKnown known (Const d k) = true
+readsKnown known (Xor d a b) = memberOf known a && memberOf known b
+readsKnown known (And d a b) = memberOf known a && memberOf known b
+readsKnown known (Not d a) = memberOf known a
+readsKnown known (Shl d a b) = memberOf known a
+readsKnown known (Shr d a b) = memberOf known a
+readsKnown known (Spread d a) = memberOf known a
+readsKnown known (Add d a b) = memberOf known a && memberOf known b
+readsKnown known (Rand d) = true
+
+-- a word read: a step reads only known registers, and the one that it writes is known to the rest
+abbrev pub reading : Decoded → List ℕ → (List ℕ → Bool) → Bool
+reading (Good s) known rest = readsKnown known s && rest (dest s ∷ known)
+reading Bad known rest = false
+
+-- a test that walks a plan's words in order: each step reads only registers that are known at the start or written by an earlier step. A bad
+-- word fails it.
+abbrev pub readsOnly : List ℕ → List ℕ → Bool
+readsOnly [] known = true
+readsOnly (w ∷ ws) known = reading (planStep w) known (readsOnly ws)
+
+-- `operands`: the registers that hold operands at the start
+pub record Cost (plan operands : List ℕ) (ceiling : ℕ) : Type 0 where
+  pub tape : (n : ℕ) → 2 ≤ n → n ≤ 8 → foretoldTape n plan ≤ ceiling * (n * (n - 1))
+  pub inputs : T (readsOnly plan operands)
+
+-- how many of a plan's words are of a kind (3 AND, 8 ADD)
+abbrev pub ofKind : ℕ → List ℕ → ℕ
+ofKind k [] = 0
+ofKind k (w ∷ ws) = cond (eqb (kindOf w) k) 1 0 + ofKind k ws
+
+-- a plan's figures
+pub record Figures (plan : List ℕ) (words ands adds : ℕ) : Type 0 where
+  pub words-are : length plan ≡ words
+  pub ands-are : ofKind 3 plan ≡ ands
+  pub adds-are : ofKind 8 plan ≡ adds

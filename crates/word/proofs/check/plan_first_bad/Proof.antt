@@ -1,0 +1,93 @@
+-- `word::check::plan_first_bad` meets its contract: the loop keeps that no word before its place is bad (Checking).
+use Prim.Native.Nat.{_-_, _<_}
+use mathlib.Core.Path.{_≡_, sym, ap, _∙_}
+use native.Mathlib.Nat.{zero-add}
+use native.Mathlib.Omega.{arith}
+use lib.ListN.{length, getD}
+use borrow.Author.Needs.{needs}
+use denote.Ref.{now}
+use Rattle.word.specs.Word.{planStep}
+use Rattle.word.proofs.Checking.{Passed, says, passed-one, at-bad, at-end}
+use Rattle.word.proofs.check.plan_first_bad.Statement.{statement}
+use Rattle.word.proofs.check.plan_first_bad.Tie as tie
+
+abbrev Inv-loop : tie.InvT-loop
+Inv-loop plan i₀ i = Passed planStep plan i
+
+abbrev μ-loop : tie.MeasureT-loop
+μ-loop plan i₀ i = length plan - i
+
+loop-holds : tie.Need-loop-holds Inv-loop μ-loop
+loop-holds c = sym (zero-add _)
+
+word-at-requires : tie.Need-word-at-requires Inv-loop μ-loop
+word-at-requires c κs = search needs
+
+enum-known-w : tie.Need-enum-known-w Inv-loop μ-loop
+enum-known-w c = search needs
+
+enum-told : tie.Need-enum-told Inv-loop μ-loop
+enum-told c = search needs
+
+of-requires : tie.Need-of-requires Inv-loop μ-loop
+of-requires c κs = search needs
+
+plan-step-requires : tie.Need-plan-step-requires Inv-loop μ-loop
+plan-step-requires c κs = search needs
+
+enum-told-2 : tie.Need-enum-told-2 Inv-loop μ-loop
+enum-told-2 c = search needs
+
+enum-told-3 : tie.Need-enum-told-3 Inv-loop μ-loop
+enum-told-3 c = search needs
+
+-- where a word was read and taken apart: its place is before the end, and it is the word there that was taken apart
+turn : (c : tie.After-plan-step Inv-loop μ-loop) →
+    let start = c .before .before .before .before .before .before .before .before in
+    let i = c .before .before .before .before .before .before .loop .i in
+    (i < length (now (start .args .plan))) × (planStep (getD (now (start .args .plan)) i 0) ≡ c .plan-step .result)
+turn c =
+    let start = c .before .before .before .before .before .before .before .before in
+    let read = says (now (start .args .plan)) (c .before .before .before .before .before .before .loop .i) _ (sym (c .before .before .before .before .before .word-at .ensures) ∙ c .before .before .before .w .given .1) in
+    (read .0, ap planStep (read .1) ∙ sym (ap planStep (c .before .of .ensures)) ∙ sym (c .plan-step .ensures))
+
+add-i : tie.Need-add-i Inv-loop μ-loop
+add-i c = omega (arith, turn (c .before .before) .0, c .before .before .before .before .before .before .before .before .before .before .good .0 .0)
+
+loop-less : tie.Need-loop-less Inv-loop μ-loop
+loop-less c = omega (arith, turn (c .before .before) .0)
+
+loop-again : tie.Need-loop-again Inv-loop μ-loop
+loop-again c =
+    let at-loop = c .before .before .before .before .before .before .before .before in
+    passed-one planStep _ _ (at-loop .loop .inv) (turn (c .before .before) .0) (turn (c .before .before) .1 ∙ c .enum-told2 .given .1)
+
+returns : tie.Need-returns Inv-loop μ-loop
+returns c =
+    let start = c .before .before .before .before .before in
+    at-end planStep _ _ (c .before .before .before .loop .inv) (says (now (start .args .plan)) (c .before .before .before .loop .i) _ (sym (c .before .before .word-at .ensures) ∙ c .enum-told .given .1))
+
+returns-2 : tie.Need-returns-2 Inv-loop μ-loop
+returns-2 c =
+    let at-loop = c .before .before .before .before .before .before .before .before in
+    at-bad planStep _ _ (at-loop .loop .inv) (turn (c .before .before) .0) (turn (c .before .before) .1 ∙ c .enum-told3 .given .1)
+
+pub plan-first-bad-spec : {M : Type 1} → statement M
+plan-first-bad-spec =
+    tie.close
+    (tie.spec
+    Inv-loop
+    μ-loop
+    loop-holds
+    word-at-requires
+    enum-known-w
+    enum-told
+    of-requires
+    plan-step-requires
+    enum-told-2
+    enum-told-3
+    add-i
+    loop-less
+    loop-again
+    returns
+    returns-2)
