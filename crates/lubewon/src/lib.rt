@@ -2,3 +2,5 @@
 // `include/lubewon.h` declares these functions; nothing checks that header against this file but the C test.
 pub mod machines;
 pub mod numbers;
+pub mod splitting;
+pub mod translation;

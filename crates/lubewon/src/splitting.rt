@@ -1,0 +1,21 @@
+// Split and join for C.
+ghost use mathlib.Core.Path.{_≡_};
+ghost use lib.ListN.{length};
+ghost use Rattle.operations.specs.Splitting.{joinAnswer, joinedWord, splitAnswer, splitOut};
+use operations::splitting::Joined;
+use word::answer::Answer;
+
+#[no_mangle]
+pub extern "C" fn lubewon_split(word: u64, tape: &[u64], out: &mut [u64]) -> Answer
+    ensures answer { λ r. ⌜ r ≡ splitAnswer (length (now (out .entry))) (length (now (tape .entry))) ⌝ }
+    ensures out { λ _. ⌜ now (out .exit) ≡ splitOut word (now (tape .entry)) (now (out .entry)) ⌝ }
+{
+    operations::splitting::split(word, tape, out)
+}
+
+#[no_mangle]
+pub extern "C" fn lubewon_join(shares: &[u64]) -> Joined
+    ensures { λ r. ⌜ (r .answer ≡ joinAnswer (length (now (shares .entry)))) × (r .word ≡ joinedWord (now (shares .entry))) ⌝ }
+{
+    operations::splitting::join(shares)
+}
