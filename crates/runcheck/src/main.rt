@@ -1,0 +1,123 @@
+// Share runs in a row with odd budgets against one run in a go, and joined registers against the plain run, for a plan of every kind and
+// n = 2..8. Writes for each n the counts and what differs.
+use libc::STDOUT_FILENO;
+
+// CONST, XOR, AND, NOT, SHL, SHR, SPREAD and ADD, with distinct and with equal registers.
+const PLAN: [u32; 12] = [
+    0x100c02bc,
+    0x20080001,
+    0x30100403,
+    0x40140800,
+    0x50180a07,
+    0x601c0c03,
+    0x70200e00,
+    0x80240001,
+    0x30040201,
+    0x80241209,
+    0x30281208,
+    0x20281409,
+];
+
+// More than the longest program here, with a budget of 0 among them.
+const BUDGETS: [usize; 11] = [1, 3, 0, 5, 17, 101, 999, 1, 2001, 3333, 7777];
+
+// One more word of a shift register (Marsaglia).
+fn next(seed: u64) -> u64 {
+    let a = seed ^ (seed << 13);
+    let b = a ^ (a >> 7);
+    b ^ (b << 17)
+}
+
+fn fill(seed: u64, out: &mut [u64]) {
+    let mut s = seed;
+    for i in 0..out.len() {
+        s = next(s);
+        out[i] = s;
+    }
+}
+
+// How many words of two slices differ, by place.
+fn different(a: &[u64], b: &[u64]) -> u64 {
+    let mut count = 0;
+    for i in 0..a.len() {
+        if i < b.len() {
+            if a[i] != b[i] {
+                count = std::num::wrapping_add_u64(count, 1);
+            }
+        }
+    }
+    count
+}
+
+// Register r of n shares joined: cells 32i + r.
+fn joined(cells: &[u64], n: usize, r: usize) -> u64 {
+    let mut word = 0;
+    for i in 0..16usize {
+        let at = 32 * i + r % 32;
+        if i < n {
+            if at < cells.len() {
+                word = word ^ cells[at];
+            }
+        }
+    }
+    word
+}
+
+fn join_all(cells: &[u64], n: usize, out: &mut [u64]) {
+    for r in 0..out.len() {
+        out[r] = joined(cells, n, r);
+    }
+}
+
+fn line(n: usize, words: usize, tape: usize, split: u64, plain: u64) {
+    io::write_all(STDOUT_FILENO, b"n ");
+    io::print_decimal(STDOUT_FILENO, n as u64);
+    io::write_all(STDOUT_FILENO, b" words ");
+    io::print_decimal(STDOUT_FILENO, words as u64);
+    io::write_all(STDOUT_FILENO, b" tape ");
+    io::print_decimal(STDOUT_FILENO, tape as u64);
+    io::write_all(STDOUT_FILENO, b" cells that differ ");
+    io::print_decimal(STDOUT_FILENO, split);
+    io::write_all(STDOUT_FILENO, b" registers that differ ");
+    io::print_decimal(STDOUT_FILENO, plain);
+    io::write_all(STDOUT_FILENO, b"\n");
+}
+
+// One share count: a run in a go, the same in a row, and the plan unsplit.
+fn compare(n: usize, program: &[u32], tape: &[u64], words: usize) {
+    let mut whole = [0u64; 512];
+    fill(n as u64, &mut whole);
+    let mut parts = [0u64; 512];
+    fill(n as u64, &mut parts);
+    let mut plain = [0u64; 32];
+    join_all(&whole, n, &mut plain);
+    let answer = shares::run::share_run(program, 0, tape, 0, words, &mut whole);
+    shares::in_a_row::runs_in_a_row(program, 0, tape, 0, &BUDGETS, &mut parts);
+    plain::plain_run(&PLAN, &mut plain);
+    let mut after = [0u64; 32];
+    join_all(&whole, n, &mut after);
+    line(
+        n,
+        answer.words,
+        answer.tape,
+        different(&whole, &parts),
+        different(&plain, &after),
+    );
+}
+
+fn translated(n: usize, tape: &[u64], out: &mut [u32]) {
+    let answer = shares::translate::translate(n, &PLAN, out);
+    let words = answer.words;
+    if words <= out.len() {
+        compare(n, &out[..words], tape, words);
+    }
+}
+
+fn main() {
+    let mut tape = [0u64; 2000];
+    fill(77, &mut tape);
+    let mut buffer = [0u32; 9000];
+    for n in 2..9usize {
+        translated(n, &tape, &mut buffer);
+    }
+}
