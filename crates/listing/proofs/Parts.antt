@@ -1,0 +1,130 @@
+-- A listing's lines part by part: what a part has written and what is still to write of it, and that parts in turn list the whole plan.
+-- Rests on PlanWord's bound for one word's lines.
+use mathlib.Core.Path.{_≡_, refl, sym, ap, ap₂, _∙_}
+use mathlib.Core.Bool.{Bool, true, false, cond}
+use mathlib.Core.List.{List, [], _∷_, _++_, append-assoc}
+use Prim.Native.Nat.{ℕ, zero, suc, _+_, _-_, _≤_, _<_}
+use native.Mathlib.Numerals.{add-one}
+use native.Mathlib.Omega.{arith}
+use lib.Dec.{ltb}
+use lib.ListN.{length, take, drop, getD, length-append, length-drop, take-append-drop, drop-of-length-le}
+use lib.Seq.{drop-cons}
+use borrow.Author.Tests.{lt-ltb, le-ltb, ltb-false}
+use borrow.Rule.Slice.PartMut.{putMid}
+use Rattle.shares.proofs.Program.{part-is, part-back}
+use Rattle.listing.specs.Writing.{Wrote, Appends, ListsPart, wordLines, linesOf, wordBytes, fitCount, partsOf}
+use Rattle.listing.proofs.Placed.{Left, start, renamed, part, whole, wrote, appended, appends-long}
+use Rattle.listing.proofs.PlanWord.{lines-most}
+
+-- ---- how many words fit
+
+pub fit-none : (n : ℕ) (plan : List ℕ) (room : ℕ) → room < wordBytes → fitCount n plan room ≡ 0
+fit-none n [] room h = refl
+fit-none n (w ∷ ws) room h = ap (λ (b : Bool). cond b 0 (suc (fitCount n ws (room - length (wordLines n w))))) (lt-ltb room wordBytes h)
+
+fit-one : (n w : ℕ) (ws : List ℕ) (room : ℕ) → wordBytes ≤ room → fitCount n (w ∷ ws) room ≡ suc (fitCount n ws (room - length (wordLines n w)))
+fit-one n w ws room h = ap (λ (b : Bool). cond b 0 (suc (fitCount n ws (room - length (wordLines n w))))) (le-ltb room wordBytes h)
+
+-- the words that a part lists
+abbrev fitted : ℕ → List ℕ → ℕ → List ℕ
+fitted n plan room = take (fitCount n plan room) plan
+
+fitted-most : (n : ℕ) (plan : List ℕ) (room : ℕ) → length (linesOf n (fitted n plan room)) ≤ room
+fitted-most n [] room = omega arith
+fitted-most n (w ∷ ws) room = by (ltb room wordBytes) refl (fitted-most n ws (room - length (wordLines n w)))
+  where
+    by : (b : Bool) → ltb room wordBytes ≡ b → length (linesOf n (fitted n ws (room - length (wordLines n w)))) ≤ room - length (wordLines n w)
+        → length (linesOf n (take (cond b 0 (suc (fitCount n ws (room - length (wordLines n w))))) (w ∷ ws))) ≤ room
+    by true e h = omega arith
+    by false e h =
+        omega (
+          arith,
+          ltb-false room wordBytes e,
+          lines-most n w,
+          length-append (wordLines n w) (linesOf n (fitted n ws (room - length (wordLines n w)))),
+        )
+
+-- ---- one part
+
+-- the lines before word `next` stand in the first `at` bytes of a part that began with word `from`
+pub record Going (n : ℕ) (plan : List ℕ) (from : ℕ) (out₀ out : List ℕ) (next at : ℕ) : Type 0 where
+  pub left : Left (linesOf n (fitted n (drop from plan) (length out₀))) out₀ 0 (linesOf n (fitted n (drop next plan) (length out - at))) out at
+  pub moved : from + fitCount n (drop from plan) (length out₀) ≡ next + fitCount n (drop next plan) (length out - at)
+  pub within : at ≤ length out
+
+pub going : (n : ℕ) (plan : List ℕ) (from : ℕ) (out : List ℕ) → Going n plan from out out from 0
+going n plan from out =
+    let e : length out ≡ length out - 0 = omega arith in
+    record {
+      left = renamed (ap (λ (room : ℕ). linesOf n (fitted n (drop from plan) room)) e) (start _ _ _);
+      moved = ap (λ (room : ℕ). from + fitCount n (drop from plan) room) e;
+      within = omega arith;
+    }
+
+module _ (n : ℕ) (plan : List ℕ) (from : ℕ) (out₀ out : List ℕ) (next at : ℕ) (g : Going n plan from out₀ out next at) where
+  -- the next word's lines are written
+  pub going-on : next < length plan → wordBytes ≤ length out - at → {out' : List ℕ} {at' : ℕ} → Appends (wordLines n (getD plan next 0)) out at out' at'
+      → Going n plan from out₀ out' (next + 1) at'
+  going-on l r {out'} {at'} a =
+      let w = getD plan next 0 in
+      let ws = drop (next + 1) plan in
+      let d : drop next plan ≡ w ∷ ws = drop-cons plan next 0 l ∙ ap (λ (k : ℕ). w ∷ drop k plan) (sym (add-one next)) in
+      let room : length out - at - length (wordLines n w) ≡ length out' - at' = omega (arith, a .ends, appends-long a, g .within) in
+      let k : fitCount n (drop next plan) (length out - at) ≡ suc (fitCount n ws (length out' - at')) =
+      ap (λ (p : List ℕ). fitCount n p (length out - at)) d ∙ fit-one n w ws (length out - at) r ∙ ap (λ (m : ℕ). suc (fitCount n ws m)) room in
+      record {
+        left = part (wordLines n w) (linesOf n (fitted n ws (length out' - at'))) (renamed (ap₂ (λ (j : ℕ) (p : List ℕ). linesOf n (take j p)) k d) (g .left)) a;
+        moved = omega (arith, g .moved, k);
+        within = omega (arith, a .ends, appends-long a, g .within, lines-most n w);
+      }
+
+  -- no further word is
+  pub gone : fitCount n (drop next plan) (length out - at) ≡ 0 → ListsPart n plan from out₀ out next at
+  gone e =
+      record {
+        moved = omega (arith, g .moved);
+        lines =
+            wrote (fitted-most n (drop from plan) (length out₀))
+            (whole (renamed (ap (λ (k : ℕ). linesOf n (take k (drop next plan))) e) (g .left)));
+      }
+
+  pub gone-all : length plan ≤ next → ListsPart n plan from out₀ out next at
+  gone-all l = gone (ap (λ (p : List ℕ). fitCount n p (length out - at)) (drop-of-length-le plan l))
+
+  pub gone-full : length out - at < wordBytes → ListsPart n plan from out₀ out next at
+  gone-full r = gone (fit-none n (drop next plan) (length out - at) r)
+
+-- a text written into the part of a slice from `at` on
+pub in-part : (text out : List ℕ) (at : ℕ) {after : List ℕ} {count : ℕ} → at ≤ length out → length text ≤ length out - at
+    → Wrote text (take (length out - at) (drop at out)) after count → Appends text out at (putMid at (length out - at) out after) (at + count)
+in-part text out at h l w =
+    let a = appended w (omega (arith, ap length (part-is at out h), length-drop at out)) in
+    record { written = part-back at out h text (a .written); ends = omega (arith, a .ends) }
+
+-- a part of room enough for any word's lines moves on
+pub part-moves : {n : ℕ} {plan : List ℕ} {from : ℕ} {out after : List ℕ} {next bytes : ℕ} → ListsPart n plan from out after next bytes
+    → from < length plan → wordBytes ≤ length out → from < next
+part-moves {n} {plan} {from} {out} p l r =
+    let ws = drop (from + 1) plan in
+    let w = getD plan from 0 in
+    let d : drop from plan ≡ w ∷ ws = drop-cons plan from 0 l ∙ ap (λ (k : ℕ). w ∷ drop k plan) (sym (add-one from)) in
+    omega (arith, p .moved, ap (λ (q : List ℕ). fitCount n q (length out)) d ∙ fit-one n w ws (length out) r)
+
+-- ---- parts in turn
+
+lines-append : (n : ℕ) (xs ys : List ℕ) → linesOf n (xs ++ ys) ≡ linesOf n xs ++ linesOf n ys
+lines-append n [] ys = refl
+lines-append n (x ∷ xs) ys = ap (λ (l : List ℕ). wordLines n x ++ l) (lines-append n xs ys) ∙ sym (append-assoc (wordLines n x) (linesOf n xs) (linesOf n ys))
+
+pub parts-all : (n room : ℕ) → wordBytes ≤ room → (turns : ℕ) (plan : List ℕ) → length plan ≤ turns → partsOf turns room n plan ≡ linesOf n plan
+parts-all n room h zero [] l = refl
+parts-all n room h zero (w ∷ ws) l = absurd (omega arith)
+parts-all n room h (suc turns) plan l =
+    let k = fitCount n plan room in
+    ap (λ (rest : List ℕ). linesOf n (take k plan) ++ rest) (parts-all n room h turns (drop k plan) (shorter plan l))
+    ∙ sym (lines-append n (take k plan) (drop k plan))
+    ∙ ap (linesOf n) (take-append-drop k plan)
+  where
+    shorter : (p : List ℕ) → length p ≤ suc turns → length (drop (fitCount n p room) p) ≤ turns
+    shorter [] e = omega (arith, length-drop {A = ℕ} (fitCount n [] room) [])
+    shorter (w ∷ ws) e = omega (arith, length-drop {A = ℕ} (fitCount n (w ∷ ws) room) (w ∷ ws), fit-one n w ws room h)

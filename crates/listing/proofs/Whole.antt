@@ -1,0 +1,50 @@
+-- What a program writes that goes by the functions of this crate is the listing. Rests on masking's steps of a plan without a bad word.
+use mathlib.Core.Path.{_≡_, refl, sym, ap, ap₂, _∙_}
+use mathlib.Core.Bool.{Bool, true, false, cond}
+use mathlib.Core.List.{List, [], _∷_, _++_, append-nil}
+use Prim.Native.Nat.{ℕ, _≤_}
+use lib.Dec.{eqb}
+use borrow.Author.Tests.{le-leb, eqb-true}
+use Rattle.word.specs.Word.{planStep}
+use Rattle.masking.specs.Foretold.{Accepted}
+use Rattle.masking.specs.Translation.{program, wordsFor}
+use Rattle.masking.proofs.emitted.Steps.{PlanWord, PlanWords, plan-words}
+use Rattle.shares.specs.Calls.{planChecked, measured, measureAnswer}
+use Rattle.shares.proofs.Counted.{accepted}
+use Rattle.listing.specs.Listing.{listAnswer, hexLines, firstLine, refusedLine, countOf, planOf, listing}
+use Rattle.listing.specs.Writing.{linesOf, partsOf, writtenOf, WrittenIsListing}
+use Rattle.listing.proofs.Hex.{lines-append}
+use Rattle.listing.proofs.Answered.{taken}
+use Rattle.listing.proofs.PlanWord.{lines-of-good}
+use Rattle.listing.proofs.Parts.{parts-all}
+
+-- Measure takes each word of a plan that it takes
+word-taken : (n w : ℕ) → 2 ≤ n → n ≤ 8 → PlanWord w → measureAnswer n (w ∷ []) .number ≡ 0
+unfolding planChecked
+word-taken n w l m p = rw (le-leb 2 n l, le-leb n 8 m, p .apart)
+
+module _ (n : ℕ) (l : 2 ≤ n) (m : n ≤ 8) where
+  lines-good : (plan : List ℕ) → PlanWords plan → hexLines (program n plan) ≡ linesOf n plan
+  lines-good [] h = refl
+  lines-good (w ∷ ws) h =
+      lines-append (wordsFor n (planStep w)) (program n ws)
+      ∙ ap₂ (λ (x y : List ℕ). x ++ y)
+      (ap hexLines (sym (append-nil (wordsFor n (planStep w)))) ∙ sym (lines-of-good n w (word-taken n w l m (h .0))))
+      (lines-good ws (h .1))
+
+-- the lines of a plan that Measure takes are those of its words in turn
+pub lines-whole : (n : ℕ) (plan : List ℕ) → Accepted n plan → hexLines (program n plan) ≡ linesOf n plan
+lines-whole n plan A = lines-good n (A .least) (A .most) plan (plan-words plan (A .good))
+
+pub written-is-listing : WrittenIsListing
+unfolding writtenOf listing
+written-is-listing room h input = by (eqb (listAnswer input .number) 0) refl
+  where
+    by : (b : Bool) → eqb (listAnswer input .number) 0 ≡ b
+        → cond b (firstLine (countOf input) (listAnswer input .words) (listAnswer input .tape) ++ partsOf 2048 room (countOf input) (planOf input)) (refusedLine (listAnswer input .number))
+        ≡ cond b (firstLine (countOf input) (listAnswer input .words) (listAnswer input .tape) ++ hexLines (program (countOf input) (planOf input))) (refusedLine (listAnswer input .number))
+    by true e =
+        let A = accepted (countOf input) (planOf input) (measured (countOf input) (planOf input)) (taken input (eqb-true (listAnswer input .number) 0 e)) in
+        ap (λ (l : List ℕ). firstLine (countOf input) (listAnswer input .words) (listAnswer input .tape) ++ l)
+        (parts-all (countOf input) room h 2048 (planOf input) (A .short) ∙ sym (lines-whole (countOf input) (planOf input) A))
+    by false e = refl

@@ -1,0 +1,74 @@
+-- The program `sharelist`, from document 01's section "A listed translation": what it makes of its input bytes, and the bytes that it writes.
+use mathlib.Core.Bool.{Bool, true, false, not, _&&_, _||_, cond}
+use mathlib.Core.List.{List, [], _∷_, _++_}
+use Prim.Native.Nat.{ℕ, zero, suc, _+_, _*_, _/_, _%_, _^_}
+use lib.Dec.{leb, ltb, eqb}
+use lib.ListN.{length}
+use Rattle.word.specs.declared.answer.Answer.{Answer}
+use Rattle.word.specs.Answers.{refused, given}
+use Rattle.masking.specs.Translation.{program}
+use Rattle.shares.specs.Calls.{measureAnswer}
+
+-- "plan words, least byte first"
+abbrev pub wordsOf : List ℕ → List ℕ
+wordsOf [] = []
+wordsOf (a ∷ []) = []
+wordsOf (a ∷ b ∷ []) = []
+wordsOf (a ∷ b ∷ c ∷ []) = []
+wordsOf (a ∷ b ∷ c ∷ d ∷ rest) = (a + 256 * b + 65536 * c + 16777216 * d) ∷ wordsOf rest
+
+-- "reads n as one byte": "no byte at all or a bad n `refused 1`", "more than 8,193 bytes or a broken last word prints `refused 2`", "other
+-- turn-downs likewise, in the calls' order"
+unfoldable pub listAnswer : List ℕ → Answer
+listAnswer [] = refused 1
+listAnswer (n ∷ rest) =
+    given (not (leb 2 n && leb n 8)) (refused 1)
+    (given (ltb 8192 (length rest) || not (eqb (length rest % 4) 0)) (refused 2)
+    (measureAnswer n (wordsOf rest)))
+
+-- a number in decimal digits, without leading zeros; ten digits at most are ever asked for
+abbrev pub decimalWith : ℕ → ℕ → List ℕ
+decimalWith zero n = []
+decimalWith (suc k) n = cond (ltb n 10) ((48 + n) ∷ []) (decimalWith k (n / 10) ++ ((48 + n % 10) ∷ []))
+
+unfoldable pub decimal : ℕ → List ℕ
+decimal n = decimalWith 20 n
+
+-- "one word a line, eight digits, letters as capitals"
+abbrev pub hexDigit : ℕ → ℕ
+hexDigit x = cond (ltb x 10) (48 + x) (55 + x)
+
+unfoldable pub hexLine : ℕ → List ℕ
+hexLine w =
+    hexDigit (w / 2 ^ 28 % 16) ∷ hexDigit (w / 2 ^ 24 % 16) ∷ hexDigit (w / 2 ^ 20 % 16) ∷ hexDigit (w / 2 ^ 16 % 16)
+    ∷ hexDigit (w / 2 ^ 12 % 16) ∷ hexDigit (w / 2 ^ 8 % 16) ∷ hexDigit (w / 2 ^ 4 % 16) ∷ hexDigit (w % 16) ∷ 10 ∷ []
+
+abbrev pub hexLines : List ℕ → List ℕ
+hexLines [] = []
+hexLines (w ∷ ws) = hexLine w ++ hexLines ws
+
+-- "The first line is n, share words, tape words": "shares 2 words 2 tape 0"
+unfoldable pub firstLine : ℕ → ℕ → ℕ → List ℕ
+firstLine n words tape =
+    (115 ∷ 104 ∷ 97 ∷ 114 ∷ 101 ∷ 115 ∷ 32 ∷ []) ++ (decimal n
+    ++ ((32 ∷ 119 ∷ 111 ∷ 114 ∷ 100 ∷ 115 ∷ 32 ∷ []) ++ (decimal words
+    ++ ((32 ∷ 116 ∷ 97 ∷ 112 ∷ 101 ∷ 32 ∷ []) ++ (decimal tape ++ (10 ∷ []))))))
+
+-- "refused 2"
+unfoldable pub refusedLine : ℕ → List ℕ
+refusedLine number = (114 ∷ 101 ∷ 102 ∷ 117 ∷ 115 ∷ 101 ∷ 100 ∷ 32 ∷ []) ++ (decimal number ++ (10 ∷ []))
+
+-- all that it writes
+abbrev pub countOf : List ℕ → ℕ
+countOf [] = 0
+countOf (n ∷ rest) = n
+
+abbrev pub planOf : List ℕ → List ℕ
+planOf [] = []
+planOf (n ∷ rest) = wordsOf rest
+
+unfoldable pub listing : List ℕ → List ℕ
+listing input =
+    cond (eqb (listAnswer input .number) 0)
+    (firstLine (countOf input) (listAnswer input .words) (listAnswer input .tape) ++ hexLines (program (countOf input) (planOf input)))
+    (refusedLine (listAnswer input .number))
