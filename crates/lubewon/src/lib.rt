@@ -2,5 +2,6 @@
 // `include/lubewon.h` declares these functions; nothing checks that header against this file but the C test.
 pub mod machines;
 pub mod numbers;
+pub mod on_shares;
 pub mod splitting;
 pub mod translation;

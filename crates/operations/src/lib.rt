@@ -1,2 +1,4 @@
-// Split and join, and product, sum and floor on shares.
+// Product, sum and floor on shares, and split and join. `specs/` has the definitions that the contracts cite.
+mod gadgets;
+pub mod operations;
 pub mod splitting;

@@ -1,0 +1,269 @@
+/* The bench. `bench check` compares the library with the baselines, `bench time` prints nanoseconds for each case, and `bench count`, run
+ * under callgrind, leaves a dump of instruction counts for each case; `bench/run` puts them side by side. A case's name is
+ * "what|n|side", its unit an operation, a share word, or a translated word. */
+#include <stdbool.h>
+#include <stdio.h>
+#include <stdlib.h>
+#include <string.h>
+#include <time.h>
+#include <valgrind/callgrind.h>
+
+#include "baseline.h"
+
+enum { PLAN = 2048, PAIRS = 1024, PROGRAM = 200000, TAPE = 40000 };
+
+static uint64_t seed = 1;
+
+static uint64_t random_word(void) { /* splitmix64 */
+    uint64_t z = seed += UINT64_C(0x9E3779B97F4A7C15);
+    z = (z ^ z >> 30) * UINT64_C(0xBF58476D1CE4E5B9);
+    z = (z ^ z >> 27) * UINT64_C(0x94D049BB133111EB);
+    return z ^ z >> 31;
+}
+
+/* Numbers as FALCON has them: exponents within 2^-64..2^64, signs and fractions at random. */
+static uint64_t random_number(void) {
+    uint64_t r = random_word();
+    return (r & ~(UINT64_C(2047) << 52)) | (959 + random_word() % 128) << 52;
+}
+
+/* ---- The operations and the input of the cases ---- */
+
+typedef struct {
+    const char *name;
+    uint32_t plan[PLAN];
+    size_t plan_len;
+} operation;
+
+static operation product = {"product", {0}, 0}, sum = {"sum", {0}, 0}, floored = {"floor", {0}, 0};
+
+static size_t n; /* shares */
+static uint64_t x[8], y[8], result[8], work[512], cells[512], tape[TAPE];
+static uint64_t a[PAIRS], b[PAIRS];
+static uint32_t program[PROGRAM], written[PROGRAM];
+static size_t program_len, program_tape;
+static volatile uint64_t sink;
+
+static void set_up(size_t shares) {
+    n = shares;
+    for (size_t i = 0; i < TAPE; i++) tape[i] = random_word();
+    for (size_t i = 0; i < 512; i++) cells[i] = random_word();
+    for (size_t i = 0; i < PAIRS; i++) a[i] = random_number(), b[i] = random_number();
+    lubewon_split(a[0], tape, TAPE, x, n);
+    lubewon_split(b[0], tape + 8, TAPE - 8, y, n);
+    lubewon_answer answer = lubewon_translate(n, product.plan, product.plan_len, program, PROGRAM);
+    program_len = answer.words;
+    program_tape = answer.tape;
+}
+
+/* ---- Cases: one call each, or PAIRS of them for the plain operations ---- */
+
+static void product_library(void) { lubewon_product_shares(x, n, y, n, result, n, work, 512, tape, TAPE); }
+static void product_base(void) { base_operation(product.plan, product.plan_len, x, n, y, result, work, tape, TAPE); }
+static void sum_library(void) { lubewon_sum_shares(x, n, y, n, result, n, work, 512, tape, TAPE); }
+static void sum_base(void) { base_operation(sum.plan, sum.plan_len, x, n, y, result, work, tape, TAPE); }
+static void floor_library(void) { lubewon_floor_shares(x, n, result, n, work, 512, tape, TAPE); }
+static void floor_base(void) { base_operation(floored.plan, floored.plan_len, x, n, NULL, result, work, tape, TAPE); }
+static void run_library(void) { lubewon_share_run(program, program_len, 0, tape, TAPE, 0, program_len, cells, 512); }
+static void run_base(void) { base_share_run(program, program_len, 0, tape, TAPE, 0, program_len, cells, 512); }
+static void translate_library(void) { lubewon_translate(n, product.plan, product.plan_len, written, PROGRAM); }
+static void translate_base(void) { base_translate(n, product.plan, product.plan_len, written, PROGRAM); }
+
+#define PLAIN(name, call)                                              \
+    static void name(void) {                                           \
+        uint64_t all = 0;                                              \
+        for (size_t i = 0; i < PAIRS; i++) all ^= call;                \
+        sink = all;                                                    \
+    }
+PLAIN(plain_product_library, lubewon_product(a[i], b[i]))
+PLAIN(plain_product_base, base_product(a[i], b[i]))
+PLAIN(plain_sum_library, lubewon_sum(a[i], b[i]))
+PLAIN(plain_sum_base, base_sum(a[i], b[i]))
+PLAIN(plain_floor_library, lubewon_floor(a[i]))
+PLAIN(plain_floor_base, base_floor(a[i]))
+
+typedef enum { OPERATION, SHARE_WORD, PLAIN_OPERATION } unit;
+
+static const struct {
+    const char *name;
+    void (*library)(void), (*base)(void);
+    unit per;
+} cases[] = {
+    {"product on shares", product_library, product_base, OPERATION},
+    {"sum on shares", sum_library, sum_base, OPERATION},
+    {"floor on shares", floor_library, floor_base, OPERATION},
+    {"share run, per word", run_library, run_base, SHARE_WORD},
+    {"translate, per share word", translate_library, translate_base, SHARE_WORD},
+    {"plain product", plain_product_library, plain_product_base, PLAIN_OPERATION},
+    {"plain sum", plain_sum_library, plain_sum_base, PLAIN_OPERATION},
+    {"plain floor", plain_floor_library, plain_floor_base, PLAIN_OPERATION},
+};
+
+static double units(unit per) {
+    return per == OPERATION ? 1 : per == SHARE_WORD ? (double)program_len : PAIRS;
+}
+
+/* ---- Time and instructions ---- */
+
+static double now(void) {
+    struct timespec t;
+    clock_gettime(CLOCK_PROCESS_CPUTIME_ID, &t);
+    return 1e9 * (double)t.tv_sec + (double)t.tv_nsec;
+}
+
+/* Nanoseconds of processor time of one call: the mean over a batch of some 4 ms. */
+static double batch(void (*call)(void), size_t calls) {
+    double start = now();
+    for (size_t i = 0; i < calls; i++) call();
+    return (now() - start) / (double)calls;
+}
+
+/* "what|n|side", n = 0 where there are no shares. */
+static const char *name_of(size_t c, int side) {
+    static char name[80];
+    size_t shares = cases[c].per == PLAIN_OPERATION ? 0 : n;
+    snprintf(name, sizeof name, "%s|%zu|%s", cases[c].name, shares, side ? "base" : "library");
+    return name;
+}
+
+static void time_case(size_t c) {
+    double best[2] = {1e30, 1e30};
+    void (*side[2])(void) = {cases[c].library, cases[c].base};
+    size_t calls[2];
+    for (int s = 0; s < 2; s++) {
+        double one = batch(side[s], 3);
+        calls[s] = 1 + (size_t)(4e6 / one);
+    }
+    for (int round = 0; round < 25; round++) /* in turns, so that both see the same machine; the least counts */
+        for (int s = 0; s < 2; s++) {
+            double t = batch(side[s], calls[s]);
+            if (t < best[s]) best[s] = t;
+        }
+    for (int s = 0; s < 2; s++) printf("time|%s|%.3f\n", name_of(c, s), best[s] / units(cases[c].per));
+}
+
+static void count_case(size_t c) {
+    void (*side[2])(void) = {cases[c].library, cases[c].base};
+    for (int s = 0; s < 2; s++) {
+        char label[100];
+        snprintf(label, sizeof label, "count|%s|%.0f", name_of(c, s), units(cases[c].per));
+        side[s]();
+        CALLGRIND_ZERO_STATS;
+        CALLGRIND_TOGGLE_COLLECT;
+        side[s]();
+        CALLGRIND_TOGGLE_COLLECT;
+        CALLGRIND_DUMP_STATS_AT(label);
+    }
+}
+
+static void each_case(void (*measure)(size_t)) {
+    for (size_t c = 0; c < sizeof cases / sizeof *cases; c++)
+        for (size_t shares = 2; shares <= 8; shares++) {
+            if (cases[c].per == PLAIN_OPERATION && shares > 2) break;
+            set_up(shares);
+            measure(c);
+        }
+}
+
+/* ---- The check: library and baselines give the same words ---- */
+
+static void same(bool equal, const char *what) {
+    if (equal) return;
+    fprintf(stderr, "bench: library and baseline differ in %s, n = %zu\n", what, n);
+    exit(1);
+}
+
+static bool same_answer(lubewon_answer p, lubewon_answer q) {
+    return p.number == q.number && p.place == q.place && p.words == q.words && p.tape == q.tape;
+}
+
+static void check_plan(const uint32_t *plan, size_t plan_len) {
+    static uint64_t start[512], one[512], other[512];
+    for (size_t i = 0; i < 512; i++) start[i] = random_word();
+    lubewon_answer t = lubewon_translate(n, plan, plan_len, program, PROGRAM);
+    same(t.number == 0 && same_answer(t, base_translate(n, plan, plan_len, written, PROGRAM)), "translate's answer");
+    same(memcmp(program, written, t.words * sizeof *program) == 0, "translated words");
+
+    memcpy(one, start, sizeof one), memcpy(other, start, sizeof other);
+    same(same_answer(lubewon_share_run(program, t.words, 0, tape, TAPE, 0, t.words, one, 512),
+                     base_share_run(program, t.words, 0, tape, TAPE, 0, t.words, other, 512)),
+         "share run's answer");
+    same(memcmp(one, other, sizeof one) == 0, "share run's cells");
+    memcpy(other, start, sizeof other);
+    same(base_plan_on_shares(n, plan, plan_len, tape, other) == t.tape, "tape words of the gadgets");
+    same(memcmp(one, other, sizeof one) == 0, "the gadgets' cells");
+
+    if (t.words == 0) return;
+    program[t.words - 1] = 0; /* a bad last word */
+    same(same_answer(lubewon_share_run(program, t.words, 0, tape, TAPE, 0, 1, one, 512),
+                     base_share_run(program, t.words, 0, tape, TAPE, 0, 1, one, 512)),
+         "a share run turned down");
+}
+
+static void check_operation(const operation *op, lubewon_answer answer, uint64_t joined) {
+    uint64_t library[8], base[8];
+    memcpy(library, result, sizeof library);
+    lubewon_answer other = base_operation(op->plan, op->plan_len, x, n, op == &floored ? NULL : y, base, work, tape, TAPE);
+    same(answer.number == 0 && same_answer(answer, other), op->name);
+    same(memcmp(library, base, n * sizeof *base) == 0, op->name);
+    same(lubewon_join(library, n).word == joined, op->name);
+}
+
+static uint32_t random_plan_word(void) {
+    uint32_t kind = 1 + random_word() % 8, r = (uint32_t)random_word() & 0x007C3E1F; /* registers below 32, shifts too */
+    if (kind == 4 || kind == 7) r &= ~UINT32_C(511);
+    return kind << 28 | r;
+}
+
+static void check(void) {
+    uint32_t plan[12];
+    for (size_t shares = 2; shares <= 8; shares++) {
+        set_up(shares);
+        for (int round = 0; round < 50; round++) {
+            for (size_t i = 0; i < 12; i++) plan[i] = random_plan_word();
+            check_plan(plan, 12);
+        }
+        check_plan(product.plan, product.plan_len);
+        check_plan(sum.plan, sum.plan_len);
+        check_plan(floored.plan, floored.plan_len);
+        for (size_t i = 0; i < 20; i++) {
+            lubewon_split(a[i], tape, TAPE, x, n);
+            lubewon_split(b[i], tape + 8, TAPE - 8, y, n);
+            check_operation(&product, lubewon_product_shares(x, n, y, n, result, n, work, 512, tape, TAPE), base_product(a[i], b[i]));
+            check_operation(&sum, lubewon_sum_shares(x, n, y, n, result, n, work, 512, tape, TAPE), base_sum(a[i], b[i]));
+            check_operation(&floored, lubewon_floor_shares(x, n, result, n, work, 512, tape, TAPE), base_floor(a[i]));
+        }
+    }
+    for (int round = 0; round < 2000000; round++) {
+        uint64_t p = round % 2 ? random_word() : random_number(), q = round % 2 ? random_word() : random_number();
+        same(lubewon_product(p, q) == base_product(p, q), "plain product");
+        same(lubewon_sum(p, q) == base_sum(p, q), "plain sum");
+        same(lubewon_floor(p) == base_floor(p), "plain floor");
+    }
+}
+
+/* Words and tape words of the three operations, for the second table. */
+static void sizes(void) {
+    const operation *all[] = {&product, &sum, &floored};
+    for (size_t i = 0; i < 3; i++)
+        for (size_t shares = 2; shares <= 8; shares++) {
+            lubewon_answer m = lubewon_measure(shares, all[i]->plan, all[i]->plan_len);
+            printf("size|%s|%zu|%zu|%zu|%zu\n", all[i]->name, shares, all[i]->plan_len, m.words, m.tape);
+        }
+}
+
+int main(int argc, char **argv) {
+    const char *mode = argc == 2 ? argv[1] : "";
+    product.plan_len = lubewon_copy_product_plan(product.plan, PLAN).words;
+    sum.plan_len = lubewon_copy_sum_plan(sum.plan, PLAN).words;
+    floored.plan_len = lubewon_copy_floor_plan(floored.plan, PLAN).words;
+    if (strcmp(mode, "check") == 0) check();
+    else if (strcmp(mode, "time") == 0) each_case(time_case);
+    else if (strcmp(mode, "count") == 0) each_case(count_case);
+    else if (strcmp(mode, "sizes") == 0) sizes();
+    else {
+        fprintf(stderr, "usage: bench check | time | count | sizes\n");
+        return 2;
+    }
+    return 0;
+}

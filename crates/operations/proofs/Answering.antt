@@ -1,0 +1,48 @@
+-- What holds where an operation's answer is done. Assumes nothing.
+use mathlib.Core.Path.{_≡_, refl, sym, ap, _∙_}
+use mathlib.Core.Bool.{Bool, true, false, not, _&&_}
+use mathlib.Core.List.{List}
+use Prim.Native.Nat.{ℕ, _≤_}
+use native.Mathlib.Omega.{arith}
+use lib.Dec.{leb, ltb, eqb}
+use borrow.Author.Tests.{ltb-false, leb-true, eqb-true}
+use Rattle.word.specs.declared.answer.Answer.{Answer}
+use Rattle.word.specs.Answers.{done, refused, given}
+use Rattle.masking.specs.Foretold.{foretoldTape}
+use Rattle.operations.specs.Shares.{operationAnswer}
+
+-- a turn-down that was not given
+passed : (b : Bool) (x next : Answer) → (x .number ≡ 0 → ⊥) → given b x next .number ≡ 0 → (b ≡ false) × (next .number ≡ 0)
+passed true x next f e = absurd (f e)
+passed false x next f e = (refl, e)
+
+both : (p q : Bool) → not (p && q) ≡ false → (p ≡ true) × (q ≡ true)
+both true true e = (refl, refl)
+both true false e = let z : true ≡ false = e in (refl, sym z)
+both false q e = let z : true ≡ false = e in (sym z, cc)
+
+pub record Ready (plan : List ℕ) (n other result work tape : ℕ) : Type 0 where
+  pub least : 2 ≤ n
+  pub most : n ≤ 8
+  pub others : other ≡ n
+  pub results : result ≡ n
+  pub works : work ≡ 512
+  pub enough : foretoldTape n plan ≤ tape
+
+pub ready : (plan : List ℕ) (n other result work tape : ℕ) (a : Answer) → a ≡ operationAnswer plan n other result work tape → a .number ≡ 0 → Ready plan n other result work tape
+unfolding operationAnswer
+ready plan n other result work tape a e z =
+    let p₁ = passed (not (leb 2 n && leb n 8)) (refused 1) _ (λ h. omega arith) (sym (ap (λ (x : Answer). x .number) e) ∙ z) in
+    let p₄ = passed (not (eqb other n && (eqb result n && eqb work 512))) (refused 4) _ (λ h. omega arith) (p₁ .1) in
+    let p₆ = passed (ltb tape (foretoldTape n plan)) (refused 6) _ (λ h. omega arith) (p₄ .1) in
+    let s = both (leb 2 n) (leb n 8) (p₁ .0) in
+    let l = both (eqb other n) (eqb result n && eqb work 512) (p₄ .0) in
+    let m = both (eqb result n) (eqb work 512) (ap not (l .1)) in
+    record {
+      least = leb-true 2 n (s .0);
+      most = leb-true n 8 (s .1);
+      others = eqb-true other n (l .0);
+      results = eqb-true result n (m .0);
+      works = eqb-true work 512 (m .1);
+      enough = ltb-false tape (foretoldTape n plan) (p₆ .0);
+    }

@@ -1,0 +1,56 @@
+-- Slices filled word by word: zeros, operands placed, the result copied out. Assumes nothing.
+use mathlib.Core.Path.{_≡_, refl, sym, ap, _∙_, subst}
+use mathlib.Core.List.{List, [], _∷_, map}
+use Prim.Native.Nat.{ℕ, zero, suc, _+_, _-_, _<_}
+use native.Mathlib.Nat.{add-zero, zero-add}
+use native.Mathlib.Decide.{ℕ-discrete}
+use native.Mathlib.Numerals.{add-one}
+use native.Mathlib.Omega.{arith}
+use lib.ListN.{length, getD, set, drop, replicate, length-set, length-map, length-replicate, getD-replicate}
+use lib.Seq.{drop-cons, ext-getD, getD-set-same, getD-set-other}
+use Rattle.word.specs.Layout.{cell}
+use Rattle.masking.specs.Translation.{shares, upFrom}
+use Rattle.operations.specs.Shares.{placedIn}
+
+-- the first i words are those of F
+abbrev pub Filled : (ℕ → ℕ) → ℕ → List ℕ → Type 0
+Filled F i l = (k : ℕ) → k < i → getD l k 0 ≡ F k
+
+pub none-filled : (F : ℕ → ℕ) (l : List ℕ) → Filled F 0 l
+none-filled F l k h = absurd (omega arith)
+
+pub one-filled : (F : ℕ → ℕ) (i v : ℕ) (l : List ℕ) → Filled F i l → i < length l → v ≡ F i → Filled F (i + 1) (set l i v)
+one-filled F i v l f h e k m = by (ℕ-discrete k i)
+  where
+    by : Dec (k ≡ i) → getD (set l i v) k 0 ≡ F k
+    by (yes q) = subst (λ (j : ℕ). getD (set l i v) j 0 ≡ F j) (sym q) (getD-set-same l i v 0 h ∙ e)
+    by (no q) = getD-set-other l i k v 0 q ∙ f k (omega (arith, q))
+
+pub all-zero : (l : List ℕ) (n : ℕ) → length l ≡ n → Filled (λ k. 0) n l → l ≡ replicate n 0
+all-zero l n e f = ext-getD 0 l (replicate n 0) (e ∙ sym (length-replicate n 0)) (λ i h. f i (omega arith) ∙ sym (getD-replicate n i 0 0 (omega arith)))
+
+length-from : (s c : ℕ) → length (upFrom s c) ≡ c
+length-from s zero = refl
+length-from s (suc c) = ap suc (length-from (suc s) c)
+
+from-at : (F : ℕ → ℕ) (s c k : ℕ) → k < c → getD (map F (upFrom s c)) k 0 ≡ F (s + k)
+from-at F s zero k h = absurd (omega arith)
+from-at F s (suc c) zero h = ap F (sym (add-zero s))
+from-at F s (suc c) (suc k) h =
+    let e : suc s + k ≡ s + suc k = omega arith in
+    from-at F (suc s) c k (omega arith) ∙ ap F e
+
+pub all-filled : (F : ℕ → ℕ) (l : List ℕ) (n : ℕ) → length l ≡ n → Filled F n l → l ≡ map F (shares n)
+all-filled F l n e f =
+    ext-getD 0 l (map F (shares n)) (e ∙ sym (length-map (shares n) F ∙ length-from 0 n))
+    (λ i h. f i (omega arith) ∙ sym (from-at F 0 n i (omega arith) ∙ ap F (zero-add i)))
+
+-- an operand's shares
+pub placed-turn : (r i : ℕ) (x cells : List ℕ) → i < length x → placedIn r i (drop i x) cells ≡ placedIn r (i + 1) (drop (i + 1) x) (set cells (cell i r) (getD x i 0))
+placed-turn r i x cells h =
+    ap (λ (l : List ℕ). placedIn r i l cells) (drop-cons x i 0 h)
+    ∙ ap (λ (k : ℕ). placedIn r k (drop k x) (set cells (cell i r) (getD x i 0))) (sym (add-one i))
+
+pub placed-size : (r i : ℕ) (x cells : List ℕ) → length (placedIn r i x cells) ≡ length cells
+placed-size r i [] cells = refl
+placed-size r i (v ∷ x) cells = placed-size r (suc i) x (set cells (cell i r) v) ∙ length-set cells (cell i r) v

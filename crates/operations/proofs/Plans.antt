@@ -1,0 +1,64 @@
+-- A plan's words done one after the other, and the share run that the result is defined by. Rests on masking's InARow and Counts.
+use mathlib.Core.Path.{_≡_, refl, sym, ap, _∙_}
+use mathlib.Core.List.{List, [], _∷_, _++_}
+use Prim.Native.Nat.{ℕ, _+_, _-_, _≤_, _<_}
+use native.Mathlib.Numerals.{add-one}
+use native.Mathlib.Omega.{arith}
+use lib.ListN.{length, getD, drop, replicate, length-replicate}
+use lib.Seq.{drop-cons, take-all}
+use Rattle.word.specs.declared.step.Step.{Step}
+use Rattle.word.specs.declared.step.Decoded.{Decoded}
+use Rattle.word.specs.declared.step.Decoded.the-variants.{Good, Bad}
+use Rattle.word.specs.declared.answer.Answer.{Answer}
+use Rattle.word.specs.Word.{planStep, programStep}
+use Rattle.word.specs.Answers.{firstBad, afterCall}
+use Rattle.word.proofs.Checking.{first-bad}
+use Rattle.masking.specs.Translation.{wordsFor, program}
+use Rattle.masking.specs.Foretold.{Accepted, foretoldTape}
+use Rattle.masking.specs.Machine.{withStep, stepsOf, exec, rands}
+use Rattle.masking.specs.Runs.{State, due}
+use Rattle.masking.proofs.emitted.Counts.{plan-counts}
+use Rattle.masking.proofs.InARow.{Reached, done-answer}
+use Rattle.operations.specs.Shares.{placed, finished}
+use Rattle.operations.specs.Gadgets.{GoodWord, isGood}
+use Rattle.operations.proofs.Filling.{placed-size}
+
+steps-append : (p q : List ℕ) → stepsOf (p ++ q) ≡ stepsOf p ++ stepsOf q
+steps-append [] q = refl
+steps-append (w ∷ p) q = by (programStep w) (steps-append p q)
+  where
+    by : (d : Decoded) → stepsOf (p ++ q) ≡ stepsOf p ++ stepsOf q → withStep d (stepsOf (p ++ q)) ≡ withStep d (stepsOf p) ++ stepsOf q
+    by (Good s) e = ap (λ (r : List Step). s ∷ r) e
+    by Bad e = e
+
+-- the share steps of a plan's words from i on
+pub plan-turn : (n : ℕ) (plan : List ℕ) (i : ℕ) → i < length plan
+    → stepsOf (program n (drop i plan)) ≡ stepsOf (wordsFor n (planStep (getD plan i 0))) ++ stepsOf (program n (drop (i + 1) plan))
+plan-turn n plan i h =
+    ap (λ (l : List ℕ). stepsOf (program n l)) (drop-cons plan i 0 h ∙ ap (λ (k : ℕ). getD plan i 0 ∷ drop k plan) (sym (add-one i)))
+    ∙ steps-append (wordsFor n (planStep (getD plan i 0))) (program n (drop (i + 1) plan))
+
+-- each of its words is good
+pub plan-word : (plan : List ℕ) → firstBad planStep plan ≡ length plan → (i : ℕ) → i < length plan → GoodWord (getD plan i 0)
+plan-word plan e i h = by (planStep (getD plan i 0)) (first-bad planStep plan .good i (omega arith))
+  where
+    by : (d : Decoded) → (s : Step) × (d ≡ Good s) → isGood d
+    by (Good s) q = tt
+    by Bad q = let z : _≡_ {A = ℕ} 0 1 = cc (q .1) in absurd (omega arith)
+
+-- the share run over the whole program does all of it
+pub finished-is : (n : ℕ) (plan x y tape : List ℕ) → Accepted n plan → foretoldTape n plan ≤ length tape
+    → finished plan n x y tape ≡ exec (program n plan) tape (placed x y)
+unfolding finished placed
+finished-is n plan x y tape A h =
+    let P = program n plan in
+    let st : State = record { cells = placed x y; place = 0; tapePlace = 0 } in
+    let C = plan-counts n plan A in
+    let all : due P 0 (length P) ≡ P = take-all (length P) P (omega arith) in
+    let size : length (placed x y) ≡ 512 = placed-size 1 0 y _ ∙ placed-size 0 0 x (replicate 512 0) ∙ length-replicate {A = ℕ} 512 0 in
+    let r : Reached P tape (placed x y) 0 (C .longest) (C .good) st =
+    record { within = omega arith; tapeAt = refl; inTape = omega arith; cells = refl; size = size } in
+    let used : rands (due P 0 (length P)) ≡ foretoldTape n plan = ap rands all ∙ C .tape in
+    ap (λ (a : Answer). afterCall a (exec (due P 0 (length P)) tape (placed x y)) (placed x y))
+    (done-answer P tape (placed x y) 0 (C .longest) (C .good) st r (length P) (omega arith))
+    ∙ ap (λ (p : List ℕ). exec p tape (placed x y)) all

@@ -1,0 +1,39 @@
+// AND: the cross products behind fresh words, over a refreshed copy of b.
+ghost use Prim.Native.Nat.{_≤_};
+ghost use mathlib.Core.Path.{_≡_};
+ghost use lib.ListN.{length};
+ghost use Rattle.operations.specs.Gadgets.{Enough, Ran, Register, andSteps, at};
+use crate::gadgets::once::Op;
+use crate::gadgets::once::Place;
+use crate::gadgets::once::each;
+use crate::gadgets::pairs::cross;
+use crate::gadgets::pairs::refresh;
+
+pub fn and_shares(
+    d: Place,
+    a: Place,
+    b: Place,
+    n: usize,
+    tape: &[u64],
+    t: usize,
+    cells: &mut [u64],
+) -> usize
+    requires { ⌜ (n ≤ 8) × (length (now cells) ≡ 512) × Register d × Register a × Register b ⌝ }
+    requires { ⌜ Enough (now tape) t (andSteps n (at d) (at a) (at b)) ⌝ }
+    ensures { λ r. ⌜ Ran (andSteps n (at d) (at a) (at b)) (now (tape .entry)) t (now (cells .entry)) (now (cells .exit)) r ⌝ }
+{
+    let y = Place {
+        base: 256,
+        stride: 1,
+    };
+    let z = Place {
+        base: 264,
+        stride: 1,
+    };
+    each(Op::Shl(0), y, b, b, n, cells);
+    let t = refresh(n, tape, t, cells);
+    each(Op::And, z, a, y, n, cells);
+    let t = cross(a, n, tape, t, cells);
+    each(Op::Shl(0), d, z, z, n, cells);
+    t
+}

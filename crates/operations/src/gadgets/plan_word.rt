@@ -1,0 +1,78 @@
+// A plan word done on the cells. Its fields are taken apart here without tests: the caller knows that the word is not bad.
+ghost use mathlib.Core.Path.{_≡_};
+ghost use Prim.Native.Nat.{_+_, _≤_};
+ghost use lib.ListN.{length};
+ghost use Rattle.word.specs.declared.step.Step.the-variants.{Const, Not};
+ghost use Rattle.word.specs.Word.{planStep};
+ghost use Rattle.masking.specs.Translation.{block, scratch, wordsFor};
+ghost use Rattle.masking.specs.Machine.{stepsOf};
+ghost use Rattle.operations.specs.Gadgets.{Enough, GoodWord, OfPlan, Ran, Still};
+use crate::gadgets::add::add_shares;
+use crate::gadgets::and::and_shares;
+use crate::gadgets::once::Op;
+use crate::gadgets::once::Place;
+use crate::gadgets::once::each;
+
+// A place's shares from 1 on.
+fn others(p: Place) -> Place
+    requires { ⌜ OfPlan p ⌝ }
+    ensures { λ r. ⌜ (r .base ≡ p .base + 32) × (r .stride ≡ 32) ⌝ }
+{
+    Place {
+        base: p.base + p.stride,
+        stride: p.stride,
+    }
+}
+
+// CONST: share 0 gets k, the others 0.
+fn const_shares(d: Place, k: u32, n: usize, cells: &mut [u64])
+    requires { ⌜ (1 ≤ n) × (n ≤ 8) × (length (now cells) ≡ 512) × OfPlan d ⌝ }
+    ensures { λ _. ⌜ Still (block scratch n (Const (d .base) k)) (now (cells .entry)) (now (cells .exit)) ⌝ }
+{
+    each(Op::Const(k), d, d, d, 1, cells);
+    let e = others(d);
+    each(Op::Const(0), e, e, e, n - 1, cells);
+}
+
+// NOT: share 0 inverted, the others copied.
+fn not_shares(d: Place, a: Place, n: usize, cells: &mut [u64])
+    requires { ⌜ (1 ≤ n) × (n ≤ 8) × (length (now cells) ≡ 512) × OfPlan d × OfPlan a ⌝ }
+    ensures { λ _. ⌜ Still (block scratch n (Not (d .base) (a .base))) (now (cells .entry)) (now (cells .exit)) ⌝ }
+{
+    each(Op::Not, d, a, a, 1, cells);
+    let f = others(a);
+    each(Op::Shl(0), others(d), f, f, n - 1, cells);
+}
+
+fn register(r: u32) -> Place
+    ensures { λ p. ⌜ (p .base ≡ r) × (p .stride ≡ 32) ⌝ }
+{
+    Place {
+        base: r as usize,
+        stride: 32,
+    }
+}
+
+pub fn word_done(w: u32, n: usize, tape: &[u64], t: usize, cells: &mut [u64]) -> usize
+    requires { ⌜ GoodWord w × (2 ≤ n) × (n ≤ 8) × (length (now cells) ≡ 512) ⌝ }
+    requires { ⌜ Enough (now tape) t (stepsOf (wordsFor n (planStep w))) ⌝ }
+    ensures { λ r. ⌜ Ran (stepsOf (wordsFor n (planStep w))) (now (tape .entry)) t (now (cells .entry)) (now (cells .exit)) r ⌝ }
+{
+    let kind = w >> 28;
+    let d = register((w >> 18) % 512);
+    let f = (w >> 9) % 512;
+    let a = register(f);
+    let g = w % 512;
+    let b = register(g);
+    match kind {
+        1 => const_shares(d, 512 * f + g, n, cells),
+        2 => each(Op::Xor, d, a, b, n, cells),
+        3 => return and_shares(d, a, b, n, tape, t, cells),
+        4 => not_shares(d, a, n, cells),
+        5 => each(Op::Shl(g), d, a, a, n, cells),
+        6 => each(Op::Shr(g), d, a, a, n, cells),
+        7 => each(Op::Spread, d, a, a, n, cells),
+        _ => return add_shares(d, a, b, n, tape, t, cells),
+    }
+    t
+}
