@@ -169,8 +169,7 @@ pub fn product(x: &[u64], y: &[u64], result: &mut [u64], work: &mut [u64], tape:
     ensures result { λ _. ⌜ now (result .exit) ≡ productResult (now (x .entry)) (now (y .entry)) (now (result .entry)) (now (work .entry)) (now (tape .entry)) ⌝ }
     ensures work { λ _. ⌜ now (work .exit) ≡ productWork (now (x .entry)) (now (y .entry)) (now (result .entry)) (now (work .entry)) (now (tape .entry)) ⌝ }
 {
-    let mut plan = [0u32; 810];
-    plans::copy_product(&mut plan);
+    let plan = plans::product_words();
     operation(&plan, x, y, y.len(), result, work, tape)
 }
 
@@ -180,8 +179,7 @@ pub fn sum(x: &[u64], y: &[u64], result: &mut [u64], work: &mut [u64], tape: &[u
     ensures result { λ _. ⌜ now (result .exit) ≡ sumResult (now (x .entry)) (now (y .entry)) (now (result .entry)) (now (work .entry)) (now (tape .entry)) ⌝ }
     ensures work { λ _. ⌜ now (work .exit) ≡ sumWork (now (x .entry)) (now (y .entry)) (now (result .entry)) (now (work .entry)) (now (tape .entry)) ⌝ }
 {
-    let mut plan = [0u32; 300];
-    plans::copy_sum(&mut plan);
+    let plan = plans::sum_words();
     operation(&plan, x, y, y.len(), result, work, tape)
 }
 
@@ -191,7 +189,6 @@ pub fn floor(x: &[u64], result: &mut [u64], work: &mut [u64], tape: &[u64]) -> A
     ensures result { λ _. ⌜ now (result .exit) ≡ floorResult (now (x .entry)) (now (result .entry)) (now (work .entry)) (now (tape .entry)) ⌝ }
     ensures work { λ _. ⌜ now (work .exit) ≡ floorWork (now (x .entry)) (now (result .entry)) (now (work .entry)) (now (tape .entry)) ⌝ }
 {
-    let mut plan = [0u32; 83];
-    plans::copy_floor(&mut plan);
+    let plan = plans::floor_words();
     operation(&plan, x, &x[..0], x.len(), result, work, tape)
 }

@@ -101,3 +101,10 @@ pub fn word(i: usize) -> u32
 {
     if i < 83 { FLOOR[i] } else { 0 }
 }
+
+// The whole table.
+pub fn words() -> [u32; 83]
+    ensures { λ r. ⌜ r ≡ floorPlan ⌝ }
+{
+    FLOOR
+}

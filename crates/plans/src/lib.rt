@@ -40,3 +40,24 @@ pub fn copy_floor(out: &mut [u32]) -> Answer
 {
     copy::copy(BuiltIn::Floor, out)
 }
+
+// The product's plan as a value, for callers that run it at once.
+pub fn product_words() -> [u32; 810]
+    ensures { λ r. ⌜ r ≡ productPlan ⌝ }
+{
+    product_table::words()
+}
+
+// The sum's plan as a value, for callers that run it at once.
+pub fn sum_words() -> [u32; 300]
+    ensures { λ r. ⌜ r ≡ sumPlan ⌝ }
+{
+    sum_table::words()
+}
+
+// The floor's plan as a value, for callers that run it at once.
+pub fn floor_words() -> [u32; 83]
+    ensures { λ r. ⌜ r ≡ floorPlan ⌝ }
+{
+    floor_table::words()
+}

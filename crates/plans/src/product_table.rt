@@ -828,3 +828,10 @@ pub fn word(i: usize) -> u32
 {
     if i < 810 { PRODUCT[i] } else { 0 }
 }
+
+// The whole table.
+pub fn words() -> [u32; 810]
+    ensures { λ r. ⌜ r ≡ productPlan ⌝ }
+{
+    PRODUCT
+}

@@ -318,3 +318,10 @@ pub fn word(i: usize) -> u32
 {
     if i < 300 { SUM[i] } else { 0 }
 }
+
+// The whole table.
+pub fn words() -> [u32; 300]
+    ensures { λ r. ⌜ r ≡ sumPlan ⌝ }
+{
+    SUM
+}
