@@ -26,7 +26,7 @@ listAnswer (n ∷ rest) =
     (given (ltb 8192 (length rest) || not (eqb (length rest % 4) 0)) (refused 2)
     (measureAnswer n (wordsOf rest)))
 
--- a number in decimal digits, without leading zeros; ten digits at most are ever asked for
+-- a number in decimal digits, without leading zeros; twenty digits are enough for 64 bits
 abbrev pub decimalWith : ℕ → ℕ → List ℕ
 decimalWith zero n = []
 decimalWith (suc k) n = cond (ltb n 10) ((48 + n) ∷ []) (decimalWith k (n / 10) ++ ((48 + n % 10) ∷ []))

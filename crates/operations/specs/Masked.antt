@@ -1,5 +1,5 @@
--- What is proved of the operations on shares: their results join to the operation on the joined operands, and each of their steps has demand
--- 3's secrecy in terms of the operands' shares; and split and join.
+-- What is proved of the operations on shares: their results join to the operation on the joined operands, and each step of the share program
+-- that defines them has demand 3's secrecy in terms of the operands' shares; and split and join.
 use mathlib.Core.Path.{_≡_}
 use mathlib.Core.List.{List, []}
 use Prim.Native.Nat.{ℕ, suc, _≤_, _<_}
