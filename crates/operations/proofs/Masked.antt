@@ -1,6 +1,13 @@
 -- All that is proved of the operations on shares, in one place.
+use Rattle.binary64.specs.Product.{product}
+use Rattle.binary64.specs.Sum.{sum}
+use Rattle.binary64.specs.Floor.{floor}
+use Rattle.plans.specs.ProductPlan.{productPlan}
+use Rattle.plans.specs.SumPlan.{sumPlan}
+use Rattle.plans.specs.FloorPlan.{floorPlan}
 use Rattle.operations.specs.Masked.{Masked}
 use Rattle.operations.proofs.Joined as joined
+use Rattle.operations.proofs.CallJoined.{call-joins, call-joins-one}
 use Rattle.operations.proofs.Secret as secret
 use Rattle.operations.proofs.SplitJoin.{calls-round-trip}
 
@@ -10,6 +17,9 @@ masked =
       product-joins = joined.product-joins;
       sum-joins = joined.sum-joins;
       floor-joins = joined.floor-joins-one;
+      product-call = call-joins productPlan product joined.product-joins;
+      sum-call = call-joins sumPlan sum joined.sum-joins;
+      floor-call = call-joins-one floorPlan floor joined.floor-joins-one;
       product-secret = secret.product-secret;
       sum-secret = secret.sum-secret;
       floor-secret = secret.floor-secret-one;

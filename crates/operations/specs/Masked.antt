@@ -8,7 +8,7 @@ use Rattle.masking.specs.Translation.{program}
 use Rattle.masking.specs.Foretold.{foretoldTape}
 use Rattle.masking.specs.Machine.{Words}
 use Rattle.masking.specs.Secrecy.{Hidden}
-use Rattle.operations.specs.Shares.{placed, resultShares}
+use Rattle.operations.specs.Shares.{placed, resultShares, callAnswer, resultAfter}
 use Rattle.binary64.specs.Product.{product}
 use Rattle.binary64.specs.Sum.{sum}
 use Rattle.binary64.specs.Floor.{floor}
@@ -53,6 +53,17 @@ pub record StepSecretOne (plan : List ℕ) (n s : ℕ) : Type 0 where
 abbrev pub SecretiveOne : List ℕ → Type 0
 SecretiveOne plan = (n : ℕ) → 2 ≤ n → n ≤ 8 → (s : ℕ) → s < length (program n plan) → StepSecretOne plan n s
 
+-- and of the calls themselves: where one is done, the result's words join to the operation on the joined operands
+abbrev pub CallJoins : List ℕ → (ℕ → ℕ → ℕ) → Type 0
+CallJoins plan op =
+    (x y result work tape : List ℕ) → Words x → Words y → Words tape → callAnswer plan x (length y) result work tape .number ≡ 0
+    → xorAll (resultAfter plan x y (length y) result work tape) ≡ op (xorAll x) (xorAll y)
+
+abbrev pub CallJoinsOne : List ℕ → (ℕ → ℕ) → Type 0
+CallJoinsOne plan op =
+    (x result work tape : List ℕ) → Words x → Words tape → callAnswer plan x (length x) result work tape .number ≡ 0
+    → xorAll (resultAfter plan x [] (length x) result work tape) ≡ op (xorAll x)
+
 -- split and join go there and back: the shares, and the calls where split is not turned down
 abbrev pub RoundTrip : Type 0
 RoundTrip = (word : ℕ) (masks : List ℕ) → xorAll (splitOf word masks) ≡ word
@@ -65,6 +76,9 @@ pub record Masked : Type 0 where
   pub product-joins : Joins productPlan product
   pub sum-joins : Joins sumPlan sum
   pub floor-joins : JoinsOne floorPlan floor
+  pub product-call : CallJoins productPlan product
+  pub sum-call : CallJoins sumPlan sum
+  pub floor-call : CallJoinsOne floorPlan floor
   pub product-secret : Secretive productPlan
   pub sum-secret : Secretive sumPlan
   pub floor-secret : SecretiveOne floorPlan
