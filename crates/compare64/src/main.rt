@@ -11,8 +11,8 @@ const SUM: u64 = 1;
 
 const FLOOR: u64 = 2;
 
-// Pairs drawn at random for each operation.
-const DRAWN: u64 = 1600000;
+// Pairs for each operation: those at edges, and 1,600,000 at random.
+const PAIRS: u64 = 1655040;
 
 struct Tally {
     compared: u64,
@@ -49,37 +49,19 @@ fn outcome(op: u64, a: u64, b: u64) -> u64 {
     native::floor(a)
 }
 
-// Every pair of the edges.
-fn over_edges(op: u64, start: Tally) -> Tally {
-    let mut t = start;
-    for i in 0..operands::EDGES {
-        for j in 0..operands::EDGES {
-            t = noted(t, outcome(op, operands::edge(i), operands::edge(j)));
-        }
-    }
-    t
-}
-
-// Exponents 0 to 70 apart, with every pair of the edge fractions and both signs.
-fn over_distances(op: u64, start: Tally) -> Tally {
-    let mut t = start;
-    for d in 0..71u64 {
-        for k in 0..256u64 {
-            t = noted(t, outcome(op, operands::larger(k), operands::smaller(k, d)));
-        }
-    }
-    t
-}
-
-// Pairs at random: a generator of Marsaglia's, and eight ways to shape what it gives in turn.
-fn at_random(op: u64, start: Tally) -> Tally {
-    let mut t = start;
+// Pairs at edges, then pairs at random.
+fn all(op: u64) -> Tally {
+    let mut t = Tally {
+        compared: 0,
+        skipped: 0,
+        different: 0,
+    };
     let mut seed: u64 = 0x9e37_79b9_7f4a_7c15;
-    for i in 0..DRAWN {
-        let r = operands::next(seed);
-        let a = operands::first(i % 8, r);
-        seed = operands::next(r);
-        t = noted(t, outcome(op, a, operands::second(i % 8, a, seed)));
+    for i in 0..PAIRS {
+        let r = drawn::next(seed);
+        let a = operands::first(i, r);
+        seed = drawn::next(r);
+        t = noted(t, outcome(op, a, operands::second(i, a, seed)));
     }
     t
 }
@@ -93,15 +75,6 @@ fn report(name: &[u8], t: Tally) {
     io::write_all(STDOUT_FILENO, b", different ");
     io::print_decimal(STDOUT_FILENO, t.different);
     io::write_all(STDOUT_FILENO, b"\n");
-}
-
-fn all(op: u64) -> Tally {
-    let none = Tally {
-        compared: 0,
-        skipped: 0,
-        different: 0,
-    };
-    at_random(op, over_distances(op, over_edges(op, none)))
 }
 
 fn main() {

@@ -38,31 +38,18 @@ fn word(s: u64, e: u64, f: u64) -> u64 {
     (s << 63) | ((e & 0x7ff) << 52) | (f & 0xf_ffff_ffff_ffff)
 }
 
-pub const EDGES: u64 = 192;
-
-// The edges, numbered: sign, fraction and exponent.
-pub fn edge(k: u64) -> u64 {
+// The edges, 192 of them: by their number the sign, fraction and exponent.
+fn edge(k: u64) -> u64 {
     word(k % 2, exponent(k / 16 % 12), fraction(k / 2 % 8))
 }
 
 // A number in 1..2 and one d exponents below it, by the number k of their fractions and signs.
-pub fn larger(k: u64) -> u64 {
+fn larger(k: u64) -> u64 {
     word(k % 2, 1023, fraction(k / 4 % 8))
 }
 
-pub fn smaller(k: u64, d: u64) -> u64 {
-    if d < 1023 {
-        word(k / 2 % 2, 1023 - d, fraction(k / 32 % 8))
-    } else {
-        0
-    }
-}
-
-// Marsaglia's xorshift, 13, 7, 17.
-pub fn next(x: u64) -> u64 {
-    let y = x ^ (x << 13);
-    let z = y ^ (y >> 7);
-    z ^ (z << 17)
+fn smaller(k: u64, d: u64) -> u64 {
+    word(k / 2 % 2, 1023 - d % 71, fraction(k / 32 % 8))
 }
 
 // The exponent e in a word that keeps its other bits.
@@ -70,8 +57,8 @@ fn placed(r: u64, e: u64) -> u64 {
     word(r >> 63, e, r)
 }
 
-// The first operand of a pair, by the way of shaping.
-pub fn first(way: u64, r: u64) -> u64 {
+// The first operand of a pair at random, by the way of shaping.
+fn drawn_first(way: u64, r: u64) -> u64 {
     match way {
         // any word
         0 => r,
@@ -94,7 +81,7 @@ fn limit(r: u64) -> u64
 }
 
 // The second: apart from the first by up to 70 exponents, close to its negative, or so that the product is near a limit.
-pub fn second(way: u64, a: u64, r: u64) -> u64 {
+fn drawn_second(way: u64, a: u64, r: u64) -> u64 {
     let e = (a >> 52) % 2048;
     match way {
         0 => r,
@@ -106,4 +93,30 @@ pub fn second(way: u64, a: u64, r: u64) -> u64 {
         6 => a ^ 0x8000_0000_0000_0000 ^ (r & 0x0010_0000_0000_000f),
         _ => placed(r, limit(r) + r / 2048 % 5 - e),
     }
+}
+
+// Pairs by their number: every pair of the edges; then numbers 0 to 70 exponents apart, with every pair of the edge fractions and both
+// signs; then what `r` gives, shaped in eight ways by turns.
+const OF_EDGES: u64 = 36864;
+
+const AT_EDGES: u64 = 55040;
+
+pub fn first(i: u64, r: u64) -> u64 {
+    if i < OF_EDGES {
+        return edge(i / 192);
+    }
+    if i < AT_EDGES {
+        return larger(i % 256);
+    }
+    drawn_first(i % 8, r)
+}
+
+pub fn second(i: u64, a: u64, r: u64) -> u64 {
+    if i < OF_EDGES {
+        return edge(i % 192);
+    }
+    if i < AT_EDGES {
+        return smaller(i % 256, (i - OF_EDGES) / 256);
+    }
+    drawn_second(i % 8, a, r)
 }

@@ -26,21 +26,6 @@ const EDGES: [u64; 16] = [
 // Pairs drawn at random for each n.
 const DRAWN: u64 = 100;
 
-// One more word of a shift register (Marsaglia).
-fn next(seed: u64) -> u64 {
-    let a = seed ^ (seed << 13);
-    let b = a ^ (a >> 7);
-    b ^ (b << 17)
-}
-
-fn fill(seed: u64, out: &mut [u64]) {
-    let mut s = seed;
-    for i in 0..out.len() {
-        s = next(s);
-        out[i] = s;
-    }
-}
-
 fn joined(shares: &[u64]) -> u64 {
     let j = operations::splitting::join(shares);
     j.word
@@ -148,8 +133,8 @@ fn drawn_off(n: usize, tape: &[u64], masks: &[u64]) -> u64
     let mut count = 0;
     let mut seed: u64 = 0x9e37_79b9_7f4a_7c15;
     for _i in 0..DRAWN {
-        let a = next(seed);
-        seed = next(a);
+        let a = drawn::next(seed);
+        seed = drawn::next(a);
         count = std::num::wrapping_add_u64(count, pair_off(n, a, seed, tape, masks));
     }
     count
@@ -167,9 +152,9 @@ fn line(n: usize, edges: u64, drawn: u64) {
 
 fn main() {
     let mut tape = [0u64; 5000];
-    fill(77, &mut tape);
+    drawn::fill(77, &mut tape);
     let mut masks = [0u64; 8];
-    fill(99, &mut masks);
+    drawn::fill(99, &mut masks);
     for n in 2..9usize {
         line(n, edges_off(n, &tape, &masks), drawn_off(n, &tape, &masks));
     }

@@ -1,13 +1,16 @@
 -- Slices filled word by word: zeros, operands placed, the result copied out. Assumes nothing.
 use mathlib.Core.Path.{_≡_, refl, sym, ap, _∙_, subst}
-use mathlib.Core.List.{List, [], _∷_, map}
-use Prim.Native.Nat.{ℕ, zero, suc, _+_, _-_, _<_}
+use mathlib.Core.List.{List, [], _∷_, _++_, map}
+use mathlib.Core.Logic.{_⊎_, inl, inr}
+use Prim.Native.Nat.{ℕ, zero, suc, _+_, _-_, _≤_, _<_}
 use native.Mathlib.Nat.{add-zero, zero-add}
 use native.Mathlib.Decide.{ℕ-discrete}
 use native.Mathlib.Numerals.{add-one}
 use native.Mathlib.Omega.{arith}
-use lib.ListN.{length, getD, set, drop, replicate, length-set, length-map, length-replicate, getD-replicate}
-use lib.Seq.{drop-cons, ext-getD, getD-set-same, getD-set-other}
+use lib.ListN.{length, getD, set, take, drop, replicate, List·getD-append, length-set, length-map, length-replicate, getD-replicate}
+use lib.Seq.{drop-cons, getD-append-add, getD-take, length-take-le, ext-getD, getD-set-same, getD-set-other}
+use borrow.Rule.Slice.PartMut.{midOf, putMid, postOf, mid-len, same-len-mid}
+use Rattle.binary64.proofs.Cases.{lt-or-ge}
 use Rattle.word.specs.Layout.{cell}
 use Rattle.masking.specs.Translation.{shares, upFrom}
 use Rattle.operations.specs.Shares.{placedIn}
@@ -28,6 +31,32 @@ one-filled F i v l f h e k m = by (ℕ-discrete k i)
 
 pub all-zero : (l : List ℕ) (n : ℕ) → length l ≡ n → Filled (λ k. 0) n l → l ≡ replicate n 0
 all-zero l n e f = ext-getD 0 l (replicate n 0) (e ∙ sym (length-replicate n 0)) (λ i h. f i (omega arith) ∙ sym (getD-replicate n i 0 0 (omega arith)))
+
+-- the words from one place up to another, put back as zeros behind zeros
+pub part-filled : (at end : ℕ) (l part : List ℕ) → at ≤ end → end ≤ length l → Filled (λ k. 0) at l → part ≡ replicate (length (midOf at (end - at) l)) 0
+    → Filled (λ k. 0) end (putMid at (end - at) l part)
+part-filled at end l part h m f e k below = elim (lt-or-ge k at) [
+  | inl before ↦ List·getD-append (take at l) (part ++ postOf at (end - at) l) 0 k (omega (arith, long)) ∙ getD-take at l k 0 before ∙ f k before
+  | inr behind ↦
+      let place : length (take at l) + (k - at) ≡ k = omega (arith, long) in
+      ap (λ (i : ℕ). getD (putMid at (end - at) l part) i 0) (sym place)
+      ∙ getD-append-add (take at l) (part ++ postOf at (end - at) l) (k - at) 0
+      ∙ List·getD-append part (postOf at (end - at) l) 0 (k - at) (omega (arith, size))
+      ∙ ap (λ (p : List ℕ). getD p (k - at) 0) e
+      ∙ getD-replicate (length (midOf at (end - at) l)) (k - at) 0 0 (omega (arith, mid))
+]
+  where
+    long : length (take at l) ≡ at
+    long = length-take-le at l (omega arith)
+
+    mid : length (midOf at (end - at) l) ≡ end - at
+    mid = mid-len at end l m
+
+    size : length part ≡ end - at
+    size = ap (λ (p : List ℕ). length p) e ∙ length-replicate (length (midOf at (end - at) l)) 0 ∙ mid
+
+pub part-size : (at end : ℕ) (l part : List ℕ) → part ≡ replicate (length (midOf at (end - at) l)) 0 → length (putMid at (end - at) l part) ≡ length l
+part-size at end l part e = same-len-mid at (end - at) l part (ap (λ (p : List ℕ). length p) e ∙ length-replicate (length (midOf at (end - at) l)) 0)
 
 length-from : (s c : ℕ) → length (upFrom s c) ≡ c
 length-from s zero = refl

@@ -80,13 +80,39 @@ fn operation_answer(
     Answer::done(0, needed)
 }
 
-fn clear(cells: &mut [u64])
+fn zeros(cells: &mut [u64])
     ensures { λ _. ⌜ now (cells .exit) ≡ replicate (length (now (cells .entry))) 0 ⌝ }
 {
     let mut i = 0;
     while i < cells.len() {
         cells[i] = 0;
         i += 1;
+    }
+}
+
+// Words cleared at a time. A longer run of zeros would be left to the C library, which stores it byte by byte.
+const PART: usize = 64;
+
+// Where a part that begins at `at` ends.
+fn part_end(at: usize, length: usize) -> usize
+    requires { ⌜ at < length ⌝ }
+    ensures { λ r. ⌜ (at < r) × (r ≤ length) ⌝ }
+{
+    if length - at < PART {
+        length
+    } else {
+        at + PART
+    }
+}
+
+fn clear(cells: &mut [u64])
+    ensures { λ _. ⌜ now (cells .exit) ≡ replicate (length (now (cells .entry))) 0 ⌝ }
+{
+    let mut at = 0;
+    while at < cells.len() {
+        let end = part_end(at, cells.len());
+        zeros(&mut cells[at..end]);
+        at = end;
     }
 }
 

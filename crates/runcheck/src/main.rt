@@ -21,21 +21,6 @@ const PLAN: [u32; 12] = [
 // More than the longest program here, with a budget of 0 among them.
 const BUDGETS: [usize; 11] = [1, 3, 0, 5, 17, 101, 999, 1, 2001, 3333, 7777];
 
-// One more word of a shift register (Marsaglia).
-fn next(seed: u64) -> u64 {
-    let a = seed ^ (seed << 13);
-    let b = a ^ (a >> 7);
-    b ^ (b << 17)
-}
-
-fn fill(seed: u64, out: &mut [u64]) {
-    let mut s = seed;
-    for i in 0..out.len() {
-        s = next(s);
-        out[i] = s;
-    }
-}
-
 // How many words of two slices differ, by place.
 fn different(a: &[u64], b: &[u64]) -> u64 {
     let mut count = 0;
@@ -86,9 +71,9 @@ fn line(n: usize, words: usize, tape: usize, split: u64, plain: u64) {
 // One share count: a run in a go, the same in a row, and the plan unsplit.
 fn compare(n: usize, program: &[u32], tape: &[u64], words: usize) {
     let mut whole = [0u64; 512];
-    fill(n as u64, &mut whole);
+    drawn::fill(n as u64, &mut whole);
     let mut parts = [0u64; 512];
-    fill(n as u64, &mut parts);
+    drawn::fill(n as u64, &mut parts);
     let mut plain = [0u64; 32];
     join_all(&whole, n, &mut plain);
     let answer = shares::run::share_run(program, 0, tape, 0, words, &mut whole);
@@ -115,7 +100,7 @@ fn translated(n: usize, tape: &[u64], out: &mut [u32]) {
 
 fn main() {
     let mut tape = [0u64; 2000];
-    fill(77, &mut tape);
+    drawn::fill(77, &mut tape);
     let mut buffer = [0u32; 9000];
     for n in 2..9usize {
         translated(n, &tape, &mut buffer);

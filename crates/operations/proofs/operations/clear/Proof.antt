@@ -3,41 +3,55 @@ use mathlib.Core.Path.{_≡_, refl, _∙_}
 use Prim.Native.Nat.{_-_, _≤_}
 use native.Mathlib.Omega.{arith}
 use denote.Ref.{now}
-use lib.ListN.{length, length-set}
+use lib.ListN.{length}
 use borrow.Author.Needs.{needs}
-use Rattle.operations.proofs.Filling.{Filled, none-filled, one-filled, all-zero}
+use Rattle.operations.proofs.Filling.{Filled, none-filled, part-filled, part-size, all-zero}
 use Rattle.operations.proofs.operations.clear.Statement.{statement}
 use Rattle.operations.proofs.operations.clear.Tie as tie
 
 abbrev Inv-loop : tie.InvT-loop
-Inv-loop cells₀ i₀ cells i = (i ≤ length cells₀) × (length cells ≡ length cells₀) × Filled (λ k. 0) i cells
+Inv-loop cells₀ at₀ cells at = (at ≤ length cells₀) × (length cells ≡ length cells₀) × Filled (λ k. 0) at cells
 
 abbrev μ-loop : tie.MeasureT-loop
-μ-loop cells₀ i₀ cells i = length cells₀ - i
+μ-loop cells₀ at₀ cells at = length cells₀ - at
 
 loop-holds : tie.Need-loop-holds Inv-loop μ-loop
-loop-holds c = (omega arith, refl, none-filled (λ k. 0) (now (c .args .cells)))
+loop-holds c = (omega arith, refl, none-filled (λ k. 0) (now (c .before .args .cells)))
 
-mul-cells : tie.Need-mul-cells Inv-loop μ-loop
-mul-cells c = search needs
+part-end-requires : tie.Need-part-end-requires Inv-loop μ-loop
+part-end-requires c κs = search needs
 
-slice-write-cells : tie.Need-slice-write-cells Inv-loop μ-loop
-slice-write-cells c = search needs
+mul-zeros : tie.Need-mul-zeros Inv-loop μ-loop
+mul-zeros c = search needs
 
-add-i : tie.Need-add-i Inv-loop μ-loop
-add-i c = omega arith
+sub-zeros : tie.Need-sub-zeros Inv-loop μ-loop
+sub-zeros c = search needs
+
+part-zeros-start : tie.Need-part-zeros-start Inv-loop μ-loop
+part-zeros-start c = search needs
+
+part-zeros-end : tie.Need-part-zeros-end Inv-loop μ-loop
+part-zeros-end c = search needs
+
+zeros-requires : tie.Need-zeros-requires Inv-loop μ-loop
+zeros-requires c κs = search needs
 
 loop-less : tie.Need-loop-less Inv-loop μ-loop
-loop-less c = omega arith
+loop-less c = search needs
 
 loop-again : tie.Need-loop-again Inv-loop μ-loop
-loop-again c = (omega arith, length-set (c .before .loop .cells) (c .before .loop .i) 0 ∙ c .before .loop .inv .1, one-filled (λ k. 0) (c .before .loop .i) 0 (c .before .loop .cells) (c .before .loop .inv .2) (omega arith) refl)
+loop-again c =
+    let l = c .before .before .before .before .before .before .loop .cells in
+    let at = c .before .before .before .before .before .before .loop .at in
+    let end = c .before .before .before .before .part-end .result in
+    let e = c .before .before .zeros .ensures in
+    (omega arith, part-size at end l _ e ∙ c .before .before .before .before .before .before .loop .inv .1, part-filled at end l _ (omega arith) (omega arith) (c .before .before .before .before .before .before .loop .inv .2) e)
 
 same-length : tie.Need-same-length Inv-loop μ-loop
 same-length c = c .before .loop .inv .1
 
 returns : tie.Need-returns Inv-loop μ-loop
-returns c = all-zero (c .before .loop .cells) (length (now (c .before .before .args .cells))) (c .before .loop .inv .1) (λ k h. c .before .loop .inv .2 k (omega arith))
+returns c = all-zero _ _ (c .before .loop .inv .1) (λ k h. c .before .loop .inv .2 k (omega arith))
 
 pub clear-spec : {M : Type 1} → statement M
 clear-spec =
@@ -46,9 +60,12 @@ clear-spec =
     Inv-loop
     μ-loop
     loop-holds
-    mul-cells
-    slice-write-cells
-    add-i
+    part-end-requires
+    mul-zeros
+    sub-zeros
+    part-zeros-start
+    part-zeros-end
+    zeros-requires
     loop-less
     loop-again
     same-length

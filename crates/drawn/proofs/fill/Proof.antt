@@ -1,10 +1,10 @@
--- `runcheck::fill` meets its contract.
+-- `drawn::fill` meets its contract.
 use mathlib.Core.Path.{_≡_}
 use Prim.Native.Nat.{_-_, _≤_}
 use lib.ListN.{length}
 use borrow.Author.Needs.{needs}
-use Rattle.runcheck.proofs.fill.Statement.{statement}
-use Rattle.runcheck.proofs.fill.Tie as tie
+use Rattle.drawn.proofs.fill.Statement.{statement}
+use Rattle.drawn.proofs.fill.Tie as tie
 
 abbrev Inv-loop : tie.InvT-loop
 Inv-loop seed out₀ s₀ i₀ i-end out s i = (i ≤ i-end) × (i-end ≡ length out₀) × (length out ≡ length out₀)

@@ -1,14 +1,14 @@
--- `compare64::at_random` is safe and ends: the loop counts up to the number of pairs drawn.
+-- `compare64::all` is safe and ends: the loop counts up to the number of pairs drawn.
 use Prim.Native.Nat.{_≤_, _-_}
 use borrow.Author.Needs.{needs}
-use Rattle.compare64.proofs.at_random.Statement.{statement}
-use Rattle.compare64.proofs.at_random.Tie as tie
+use Rattle.compare64.proofs.all.Statement.{statement}
+use Rattle.compare64.proofs.all.Tie as tie
 
 abbrev Inv-loop : tie.InvT-loop
-Inv-loop op t₀ seed₀ i₀ t seed i = i ≤ 1600000
+Inv-loop op t₀ seed₀ i₀ t seed i = i ≤ 1655040
 
 abbrev μ-loop : tie.MeasureT-loop
-μ-loop op t₀ seed₀ i₀ t seed i = 1600000 - i
+μ-loop op t₀ seed₀ i₀ t seed i = 1655040 - i
 
 loop-holds : tie.Need-loop-holds Inv-loop μ-loop
 loop-holds c = search needs
@@ -43,8 +43,8 @@ loop-again c = search needs
 returns : tie.Need-returns Inv-loop μ-loop
 returns c = search needs
 
-pub at-random-spec : {M : Type 1} → statement M
-at-random-spec =
+pub all-spec : {M : Type 1} → statement M
+all-spec =
     tie.close
     (tie.spec
     Inv-loop
