@@ -1,6 +1,5 @@
 -- Document 01's edge table, proved together: every row holds, by computing the definitions on its operands.
-use mathlib.Core.Path.{_≡_, refl}
-use mathlib.Core.Bool.{true}
+use mathlib.Core.Path.{refl}
 use lib.Ieee.{size}
 use Rattle.bits.specs.Ops.{xorW}
 use Rattle.binary64.specs.Number.{magnitude}
@@ -8,8 +7,8 @@ use Rattle.binary64.specs.Rounding.{roundedE, roundedF, magBits}
 use Rattle.binary64.specs.Product.{product}
 use Rattle.binary64.specs.Sum.{sumOf, sum}
 use Rattle.binary64.specs.Floor.{floor}
-use Rattle.binary64.specs.Edges.{edges, allHold}
+use Rattle.binary64.specs.Edges.{edges, EdgesHold}
 
-pub edges-hold : allHold edges ≡ true
+pub edges-hold : EdgesHold
 unfolding edges size xorW magnitude roundedE roundedF magBits product sumOf sum floor
 edges-hold = refl

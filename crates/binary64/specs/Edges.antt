@@ -1,4 +1,5 @@
 -- Document 01, "Operands at the edges": the table, row by row. A floor has one operand; its second is not used.
+use mathlib.Core.Path.{_≡_}
 use mathlib.Core.Bool.{Bool, true, _&&_}
 use mathlib.Core.List.{List, [], _∷_}
 use Prim.Native.Nat.{ℕ}
@@ -46,3 +47,7 @@ answer F a b = floor a
 abbrev pub allHold : List Row → Bool
 allHold [] = true
 allHold (r ∷ rs) = eqb (answer (r .op) (r .a) (r .b)) (r .result) && allHold rs
+
+-- "Proved together in one table"
+abbrev pub EdgesHold : Type 0
+EdgesHold = allHold edges ≡ true

@@ -6,6 +6,7 @@ ghost use Rattle.masking.specs.Runs.{runAnswer, runCells, stepAnswer, stepCells
 ghost use Rattle.shares.specs.Calls.{standing};
 use word::answer::Answer;
 
+// Runs a plan on 32 plain cells.
 #[no_mangle]
 pub extern "C" fn lubewon_plain_run(plan: &[u32], cells: &mut [u64]) -> Answer
     ensures answer { λ r. ⌜ r ≡ plainAnswer (now (plan .entry)) (length (now (cells .entry))) ⌝ }
@@ -14,6 +15,7 @@ pub extern "C" fn lubewon_plain_run(plan: &[u32], cells: &mut [u64]) -> Answer
     plain::plain_run(plan, cells)
 }
 
+// Runs the smaller of `budget` and the words left of a share program, from the places given.
 #[no_mangle]
 pub extern "C" fn lubewon_share_run(
     program: &[u32],
@@ -29,6 +31,7 @@ pub extern "C" fn lubewon_share_run(
     shares::run::share_run(program, place, tape, tape_place, budget, cells)
 }
 
+// Runs a single word of a share program.
 #[no_mangle]
 pub extern "C" fn lubewon_one_share_step(
     word: u32,

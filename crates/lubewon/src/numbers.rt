@@ -3,12 +3,14 @@ ghost use mathlib.Core.Path.{_≡_};
 ghost use Rattle.binary64.specs.Product as product-spec;
 ghost use Rattle.binary64.specs.Sum as sum-spec;
 ghost use Rattle.binary64.specs.Floor as floor-spec;
+ghost use Rattle.plans.specs.BuiltIns.{BuiltIns};
 ghost use Rattle.plans.specs.Copy.{copyAnswer, copyOut};
 ghost use Rattle.plans.specs.ProductPlan.{productPlan};
 ghost use Rattle.plans.specs.SumPlan.{sumPlan};
 ghost use Rattle.plans.specs.FloorPlan.{floorPlan};
 use word::answer::Answer;
 
+// The product of two words as numbers.
 #[no_mangle]
 pub extern "C" fn lubewon_product(a: u64, b: u64) -> u64
     ensures { λ r. ⌜ r ≡ product-spec.product a b ⌝ }
@@ -16,6 +18,7 @@ pub extern "C" fn lubewon_product(a: u64, b: u64) -> u64
     binary64::product(a, b)
 }
 
+// Their sum.
 #[no_mangle]
 pub extern "C" fn lubewon_sum(a: u64, b: u64) -> u64
     ensures { λ r. ⌜ r ≡ sum-spec.sum a b ⌝ }
@@ -23,6 +26,7 @@ pub extern "C" fn lubewon_sum(a: u64, b: u64) -> u64
     binary64::sum(a, b)
 }
 
+// The greatest whole number not above a number; -1 for minus zero.
 #[no_mangle]
 pub extern "C" fn lubewon_floor(a: u64) -> u64
     ensures { λ r. ⌜ r ≡ floor-spec.floor a ⌝ }
@@ -30,9 +34,11 @@ pub extern "C" fn lubewon_floor(a: u64) -> u64
     binary64::floor(a)
 }
 
+// Copies of the built-in plans. Their words are free by document 01; what holds of them is `BuiltIns`.
 #[no_mangle]
 pub extern "C" fn lubewon_copy_product_plan(out: &mut [u32]) -> Answer
     ensures { λ r. ⌜ (r ≡ copyAnswer productPlan (now (out .entry))) × (now (out .exit) ≡ copyOut productPlan (now (out .entry))) ⌝ }
+    ensures holds { λ _. ⌜ BuiltIns ⌝ }
 {
     plans::copy_product(out)
 }
@@ -40,6 +46,7 @@ pub extern "C" fn lubewon_copy_product_plan(out: &mut [u32]) -> Answer
 #[no_mangle]
 pub extern "C" fn lubewon_copy_sum_plan(out: &mut [u32]) -> Answer
     ensures { λ r. ⌜ (r ≡ copyAnswer sumPlan (now (out .entry))) × (now (out .exit) ≡ copyOut sumPlan (now (out .entry))) ⌝ }
+    ensures holds { λ _. ⌜ BuiltIns ⌝ }
 {
     plans::copy_sum(out)
 }
@@ -47,6 +54,7 @@ pub extern "C" fn lubewon_copy_sum_plan(out: &mut [u32]) -> Answer
 #[no_mangle]
 pub extern "C" fn lubewon_copy_floor_plan(out: &mut [u32]) -> Answer
     ensures { λ r. ⌜ (r ≡ copyAnswer floorPlan (now (out .entry))) × (now (out .exit) ≡ copyOut floorPlan (now (out .entry))) ⌝ }
+    ensures holds { λ _. ⌜ BuiltIns ⌝ }
 {
     plans::copy_floor(out)
 }

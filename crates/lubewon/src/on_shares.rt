@@ -3,6 +3,7 @@ ghost use mathlib.Core.Path.{_≡_};
 ghost use Rattle.operations.specs.Calls.{floorAnswer, floorResult, floorWork, productAnswer, productResult, productWork, sumAnswer, sumResult, sumWork};
 use word::answer::Answer;
 
+// The product of shared operands; `work` has 512 words and is zeros afterwards.
 #[no_mangle]
 pub extern "C" fn lubewon_product_shares(
     x: &[u64],
@@ -18,6 +19,7 @@ pub extern "C" fn lubewon_product_shares(
     operations::operations::product(x, y, result, work, tape)
 }
 
+// The sum of shared operands, likewise.
 #[no_mangle]
 pub extern "C" fn lubewon_sum_shares(
     x: &[u64],
@@ -33,6 +35,7 @@ pub extern "C" fn lubewon_sum_shares(
     operations::operations::sum(x, y, result, work, tape)
 }
 
+// The floor of a shared operand, likewise.
 #[no_mangle]
 pub extern "C" fn lubewon_floor_shares(
     x: &[u64],

@@ -5,6 +5,7 @@ ghost use Rattle.operations.specs.Splitting.{joinAnswer, joinedWord, splitAnswe
 use operations::splitting::Joined;
 use word::answer::Answer;
 
+// Splits a word into as many shares as `out` has words.
 #[no_mangle]
 pub extern "C" fn lubewon_split(word: u64, tape: &[u64], out: &mut [u64]) -> Answer
     ensures answer { λ r. ⌜ r ≡ splitAnswer (length (now (out .entry))) (length (now (tape .entry))) ⌝ }
@@ -13,6 +14,7 @@ pub extern "C" fn lubewon_split(word: u64, tape: &[u64], out: &mut [u64]) -> Ans
     operations::splitting::split(word, tape, out)
 }
 
+// Joins shares to their word, 0 when turned down.
 #[no_mangle]
 pub extern "C" fn lubewon_join(shares: &[u64]) -> Joined
     ensures { λ r. ⌜ (r .answer ≡ joinAnswer (length (now (shares .entry)))) × (r .word ≡ joinedWord (now (shares .entry))) ⌝ }

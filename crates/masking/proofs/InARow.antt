@@ -22,9 +22,10 @@ use Rattle.word.specs.Table.{dest, becomes}
 use Rattle.masking.specs.Machine.{takes, withStep, stepsOf, execStep, execSteps, randsOf, exec, rands}
 use Rattle.masking.specs.Runs.{State, due, runAnswer, moved, inARow, wordsDone, tapeUsed}
 use Rattle.masking.specs.Demand3.{EachRun}
+use Rattle.masking.proofs.emitted.Counts as counts
 
 -- ---- words in a row
-steps-append : (p q : List ℕ) → stepsOf (p ++ q) ≡ stepsOf p ++ stepsOf q
+pub steps-append : (p q : List ℕ) → stepsOf (p ++ q) ≡ stepsOf p ++ stepsOf q
 steps-append [] q = refl
 steps-append (w ∷ p) q = by (programStep w) (steps-append p q)
   where
@@ -32,32 +33,28 @@ steps-append (w ∷ p) q = by (programStep w) (steps-append p q)
     by (Good s) e = ap (λ (r : List Step). s ∷ r) e
     by Bad e = e
 
-exec-steps-append : (p q : List Step) (tape cells : List ℕ) → execSteps (p ++ q) tape cells ≡ execSteps q (drop (randsOf p) tape) (execSteps p tape cells)
+pub exec-steps-append : (p q : List Step) (tape cells : List ℕ) → execSteps (p ++ q) tape cells ≡ execSteps q (drop (randsOf p) tape) (execSteps p tape cells)
 exec-steps-append [] q tape cells = refl
 exec-steps-append (s ∷ p) q tape cells =
     exec-steps-append p q (drop (takes s) tape) (execStep s tape cells)
     ∙ ap (λ (t : List ℕ). execSteps q t (execSteps p (drop (takes s) tape) (execStep s tape cells))) (drop-drop (randsOf p) (takes s) tape)
 
-rands-steps-append : (p q : List Step) → randsOf (p ++ q) ≡ randsOf p + randsOf q
-rands-steps-append [] q = sym (native.Mathlib.Nat.zero-add (randsOf q))
-rands-steps-append (s ∷ p) q = ap (λ (x : ℕ). takes s + x) (rands-steps-append p q) ∙ sym (add-assoc (takes s) (randsOf p) (randsOf q))
-
 pub exec-append : (p q tape cells : List ℕ) → exec (p ++ q) tape cells ≡ exec q (drop (rands p) tape) (exec p tape cells)
 exec-append p q tape cells = ap (λ (ss : List Step). execSteps ss tape cells) (steps-append p q) ∙ exec-steps-append (stepsOf p) (stepsOf q) tape cells
 
 pub rands-append : (p q : List ℕ) → rands (p ++ q) ≡ rands p + rands q
-rands-append p q = ap randsOf (steps-append p q) ∙ rands-steps-append (stepsOf p) (stepsOf q)
+rands-append p q = ap randsOf (steps-append p q) ∙ counts.rands-append (stepsOf p) (stepsOf q)
 
 exec-step-size : (s : Step) (tape cells : List ℕ) → length (execStep s tape cells) ≡ length cells
 unfolding execStep
 exec-step-size s tape cells = length-set cells (dest s) (becomes s (λ c. getD cells c 0) (getD tape 0 0))
 
+pub exec-steps-size : (ss : List Step) (tape cells : List ℕ) → length (execSteps ss tape cells) ≡ length cells
+exec-steps-size [] tape cells = refl
+exec-steps-size (s ∷ ss) tape cells = exec-steps-size ss (drop (takes s) tape) (execStep s tape cells) ∙ exec-step-size s tape cells
+
 pub exec-size : (words tape cells : List ℕ) → length (exec words tape cells) ≡ length cells
-exec-size words tape cells = by (stepsOf words) tape cells
-  where
-    by : (ss : List Step) (tape cells : List ℕ) → length (execSteps ss tape cells) ≡ length cells
-    by [] tape cells = refl
-    by (s ∷ ss) tape cells = by ss (drop (takes s) tape) (execStep s tape cells) ∙ exec-step-size s tape cells
+exec-size words tape cells = exec-steps-size (stepsOf words) tape cells
 
 -- a run's words are as many words of what is left
 pub due-take : (P : List ℕ) (m b : ℕ) → take (length (due P m b)) (drop m P) ≡ due P m b

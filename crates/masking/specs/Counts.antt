@@ -1,13 +1,13 @@
 -- What document 01's section "Translation for n shares" says of lengths, tape words and cells.
 use mathlib.Core.Path.{_≡_}
-use mathlib.Core.Bool.{Bool, true, false, _&&_, _||_}
+use mathlib.Core.Bool.{Bool, true, _&&_, _||_}
 use mathlib.Core.List.{List, [], _∷_}
-use Prim.Native.Nat.{ℕ, _*_, _+_, _-_, _%_, _≤_, _<_}
+use Prim.Native.Nat.{ℕ, _*_, _+_, _-_, _%_, _≤_}
 use lib.Dec.{T, ltb, leb}
 use lib.ListN.{length}
 use Rattle.word.specs.declared.step.Step.{Step}
 use Rattle.word.specs.declared.step.Step.the-variants.{Const, Xor, And, Not, Shl, Shr, Spread, Add, Rand}
-use Rattle.word.specs.Word.{planStep, programStep, inPlan, inProgram, kindNumber}
+use Rattle.word.specs.Word.{programStep, inPlan, inProgram, kindNumber}
 use Rattle.word.specs.Layout.{lengthOf, tapeOf, programMax}
 use Rattle.word.specs.Answers.{firstBad}
 use Rattle.masking.specs.Translation.{translated, program}
@@ -39,14 +39,15 @@ abbrev pub allOf : (Step → Bool) → List Step → Bool
 allOf p [] = true
 allOf p (s ∷ ss) = p s && allOf p ss
 
--- one plan step's translation for n shares
+-- one plan step's translation for n shares: "5n² − 2n words, 2Q tape words" and so on; words of kinds 1..7 and 9; and only cells that the
+-- section names
 pub record StepCounts (n : ℕ) (s : Step) : Type 0 where
   pub words : length (translated n s) ≡ lengthOf (kindNumber s) n
   pub tape : randsOf (translated n s) ≡ tapeOf (kindNumber s) n
   pub good : T (allOf inProgram (translated n s))
   pub cells : T (allOf (naming (usedCell n)) (translated n s))
 
--- a plan's share program
+-- a plan's share program: Measure's counts are those of the words emitted, none is bad, and "0..7,815,168 words" are enough
 pub record PlanCounts (n : ℕ) (plan : List ℕ) : Type 0 where
   pub words : length (program n plan) ≡ foretoldWords n plan
   pub tape : rands (program n plan) ≡ foretoldTape n plan

@@ -2,10 +2,9 @@
 -- accepts for n, the program being just the words of its translation, any 512 cells, program place 0, and any tape with any place up to
 -- its length.
 use mathlib.Core.Path.{_≡_}
-use mathlib.Core.List.{List, [], _∷_, _++_}
+use mathlib.Core.List.{List, _∷_, _++_}
 use Prim.Native.Nat.{ℕ, _+_, _-_, _≤_, _<_, min}
 use lib.ListN.{length, getD, take, drop}
-use Rattle.word.specs.declared.answer.Answer.{Answer}
 use Rattle.word.specs.Answers.{done, refused}
 use Rattle.plain.specs.Machine.{run}
 use Rattle.masking.specs.Translation.{program}

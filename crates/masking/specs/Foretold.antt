@@ -7,10 +7,12 @@ use Rattle.word.specs.Word.{planStep, kindOf}
 use Rattle.word.specs.Layout.{lengthOf, tapeOf, planMax}
 use Rattle.word.specs.Answers.{firstBad}
 
+-- share words: "Each n words", "5n² − 2n words", "60n² − 3n words"
 abbrev pub foretoldWords : ℕ → List ℕ → ℕ
 foretoldWords n [] = 0
 foretoldWords n (w ∷ ws) = lengthOf (kindOf w) n + foretoldWords n ws
 
+-- tape words: "2Q for each AND among them and 24Q for each ADD; for the whole plan, Measure's tape words"
 abbrev pub foretoldTape : ℕ → List ℕ → ℕ
 foretoldTape n [] = 0
 foretoldTape n (w ∷ ws) = tapeOf (kindOf w) n + foretoldTape n ws

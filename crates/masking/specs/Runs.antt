@@ -1,5 +1,5 @@
 -- Share run, one share step, and share runs in a row, from document 01's sections "Calls and their turn-downs" and "Share runs in a row".
-use mathlib.Core.Bool.{Bool, true, false, not, _||_}
+use mathlib.Core.Bool.{not, _||_}
 use mathlib.Core.List.{List, [], _∷_}
 use Prim.Native.Nat.{ℕ, _+_, _-_}
 use lib.Dec.{ltb, eqb}
@@ -31,6 +31,7 @@ runAnswer program tape st budget =
     (given (ltb (length tape - st .tapePlace) (rands (due program (st .place) budget))) (refused 6)
     (done (length (due program (st .place) budget)) (rands (due program (st .place) budget)))))))
 
+-- the cells afterwards: what those words make of them, or as they were
 abbrev pub runCells : List ℕ → List ℕ → State → ℕ → List ℕ
 runCells program tape st budget =
     afterCall (runAnswer program tape st budget) (exec (due program (st .place) budget) (drop (st .tapePlace) tape) (st .cells)) (st .cells)

@@ -1,7 +1,7 @@
 -- Secrecy of one step, from document 01's section "Share runs in a row": "Two starts agree in share i .. The pairing may depend on the
 -- step and the two starts; it takes each tape of the foretold length to one such tape, and each is met once."
 use mathlib.Core.Path.{_≡_}
-use mathlib.Core.List.{List, [], _∷_, _++_}
+use mathlib.Core.List.{List, _++_}
 use Prim.Native.Nat.{ℕ, suc, _<_}
 use lib.ListN.{length, getD}
 use Rattle.word.specs.Word.{fieldD}
@@ -9,7 +9,7 @@ use Rattle.word.specs.Layout.{cell}
 use Rattle.masking.specs.Translation.{program}
 use Rattle.masking.specs.Foretold.{foretoldTape}
 use Rattle.masking.specs.Machine.{Start, Words}
-use Rattle.masking.specs.Runs.{State, inARow, wordsDone}
+use Rattle.masking.specs.Runs.{inARow, wordsDone}
 
 -- "agree in share i, i below n, if cells 32i + r are equal for all registers r; other cells may differ"
 abbrev pub Agree : ℕ → List ℕ → List ℕ → Type 0

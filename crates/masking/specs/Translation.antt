@@ -2,7 +2,7 @@
 -- i < j by i and then j."
 use mathlib.Core.Bool.{cond}
 use mathlib.Core.List.{List, [], _∷_, _++_, map}
-use Prim.Native.Nat.{ℕ, zero, suc, _+_, _-_, _*_}
+use Prim.Native.Nat.{ℕ, zero, suc, _+_, _-_}
 use lib.Dec.{ltb}
 use Rattle.word.specs.declared.step.Step.{Step}
 use Rattle.word.specs.declared.step.Step.the-variants.{Const, Xor, And, Not, Shl, Shr, Spread, Add, Rand}
@@ -139,6 +139,7 @@ laidOut (Spread d a) = Spread d a ∷ []
 laidOut (Add d a b) = adding d a b
 laidOut (Rand d) = []
 
+-- one step on registers after another
 abbrev pub blocks : Scratch → ℕ → List Step → List Step
 blocks c n [] = []
 blocks c n (s ∷ ss) = block c n s ++ blocks c n ss
@@ -147,6 +148,7 @@ blocks c n (s ∷ ss) = block c n s ++ blocks c n ss
 unfoldable pub translated : ℕ → Step → List Step
 translated n s = blocks scratch n (laidOut s)
 
+-- the share words of a plan word; Translate takes no plan with a bad one
 abbrev pub wordsFor : ℕ → Decoded → List ℕ
 wordsFor n (Good s) = map wordOf (translated n s)
 wordsFor n Bad = []

@@ -1,10 +1,9 @@
 -- Where a call is done, its result's words join to the operation on the joined operands: Joined, with what Answering says of that answer.
-use mathlib.Core.Path.{_≡_, refl}
-use mathlib.Core.List.{List, []}
+use mathlib.Core.Path.{refl}
+use mathlib.Core.List.{List}
 use Prim.Native.Nat.{ℕ}
 use lib.ListN.{length}
 use borrow.Author.Tests.{eq-eqb}
-use Rattle.masking.specs.Machine.{Words}
 use Rattle.operations.specs.Shares.{callAnswer}
 use Rattle.operations.specs.Masked.{Joins, JoinsOne, CallJoins, CallJoinsOne}
 use Rattle.operations.proofs.Answering.{ready}

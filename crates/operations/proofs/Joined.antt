@@ -8,15 +8,13 @@ use native.Mathlib.Omega.{arith}
 use lib.ListN.{length, getD}
 use lib.Seq.{take-length}
 use lib.Pow.{pow-pos}
-use borrow.Author.Tests.{eq-eqb}
 use Rattle.bits.specs.Ops.{xorW}
 use Rattle.word.specs.Layout.{cell}
 use Rattle.plain.specs.Machine.{run}
 use Rattle.masking.specs.Translation.{upFrom, shares, program}
 use Rattle.masking.specs.Foretold.{Accepted, foretoldTape}
-use Rattle.masking.specs.Machine.{Words, Start, exec}
+use Rattle.masking.specs.Machine.{Words, exec}
 use Rattle.masking.specs.Unsplit.{xorOver, joined, unsplit}
-use Rattle.masking.proofs.Demand3.{demand3}
 use Rattle.masking.proofs.joined.Plan.{joined-after}
 use Rattle.masking.proofs.joined.Sums.{sum-lt}
 use Rattle.binary64.specs.Product.{product}
@@ -32,6 +30,7 @@ use Rattle.plans.proofs.floor.Computes.{floor-plan}
 use Rattle.operations.specs.Shares.{placed, finished, resultShares}
 use Rattle.operations.specs.Splitting.{xorAll}
 use Rattle.operations.specs.Masked.{Operand, Joins, JoinsOne}
+use Rattle.operations.proofs.Plans.{finished-is}
 use Rattle.operations.proofs.Placed.{placed-start, joins-0, joins-1}
 
 -- the exclusive-or of a list over share numbers
@@ -52,15 +51,6 @@ joined-lt n cells w r = sum-lt (λ i. getD cells (cell i r) 0) (λ i. w (cell i 
 pub accepted : (plan : List ℕ) (op : ℕ → ℕ → ℕ) → Computes plan op → (n : ℕ) → 2 ≤ n → n ≤ 8 → Accepted n plan
 accepted plan op C n least most = record { least = least; most = most; short = C .short; good = C .none-bad }
 
--- over tape enough the whole program is done
-pub finished-is : (plan : List ℕ) (n : ℕ) → Accepted n plan → (x y tape : List ℕ) → Start (placed x y) → Words tape → foretoldTape n plan ≤ length tape
-    → finished plan n x y tape ≡ exec (program n plan) tape (placed x y)
-unfolding finished
-finished-is plan n A x y tape S W enough =
-    let P = program n plan in
-    let d = demand3 n plan A .runs (placed x y) tape S W 0 (omega arith) (length P ∷ []) .enough (omega arith) [] [] (length P) refl in
-    rw (eq-eqb _ 0 d) (ap (λ (ws : List ℕ). exec ws tape (placed x y)) (take-length P))
-
 module _ (plan : List ℕ) (op : ℕ → ℕ → ℕ) (C : Computes plan op) (n : ℕ) (least : 2 ≤ n) (most : n ≤ 8) (x y tape : List ℕ) where
   result-joins : Operand n x → Words y → length y ≤ n → Words tape → foretoldTape n plan ≤ length tape
       → xorAll (resultShares plan n x y tape) ≡ op (xorAll x) (xorAll y)
@@ -72,7 +62,7 @@ module _ (plan : List ℕ) (op : ℕ → ℕ → ℕ) (C : Computes plan op) (n 
       let S = placed-start x y lx ly8 (X .words) wy in
       let r = C .result (unsplit n (placed x y)) refl (map-words (joined n (placed x y)) (joined-lt n (placed x y) (S .words)) (upFrom 0 32)) in
       xor-map (λ i. getD (finished plan n x y tape) (cell i 2) 0) (shares n)
-      ∙ ap (λ (c : List ℕ). joined n c 2) (finished-is plan n A x y tape S W enough)
+      ∙ ap (λ (c : List ℕ). joined n c 2) (finished-is n plan x y tape A enough)
       ∙ ap (λ (p : List ℕ). joined n (exec (program n p) tape (placed x y)) 2) (sym (take-length plan))
       ∙ joined-after n plan A (placed x y) tape (S .size) (S .words) W (length plan) 2 (omega arith)
       ∙ ap (λ (p : List ℕ). getD (run p (unsplit n (placed x y))) 2 0) (take-length plan)

@@ -1,31 +1,19 @@
 -- Steps done in parts: from a list of steps to do over a tape, parts are done one after the other until none is left.
--- Rests on masking's Counts for the tape words of steps in a row.
+-- Rests on masking's Counts and InARow for steps in a row.
 use mathlib.Core.Path.{_≡_, refl, sym, ap, ap₂, _∙_, subst}
-use mathlib.Core.List.{List, [], _∷_, _++_, append-nil}
+use mathlib.Core.List.{List, [], _++_, append-nil}
 use Prim.Native.Nat.{ℕ, _+_}
 use native.Mathlib.Nat.{add-zero}
 use native.Mathlib.Omega.{arith}
-use lib.ListN.{length, getD, drop, length-set}
+use lib.ListN.{length, drop}
 use lib.Seq.{drop-drop}
 use Rattle.word.specs.declared.step.Step.{Step}
-use Rattle.word.specs.Table.{dest, becomes}
-use Rattle.masking.specs.Machine.{takes, execStep, execSteps, randsOf}
+use Rattle.masking.specs.Machine.{execSteps, randsOf}
 use Rattle.masking.specs.Translation.{blocks, scratch}
 use Rattle.masking.proofs.emitted.Steps.{blocks-append}
 use Rattle.masking.proofs.emitted.Counts.{rands-append}
+use Rattle.masking.proofs.InARow.{exec-steps-append, exec-steps-size}
 use Rattle.operations.specs.Gadgets.{Enough, Ran, Still}
-
-pub exec-append : (p q : List Step) (tape cells : List ℕ) → execSteps (p ++ q) tape cells ≡ execSteps q (drop (randsOf p) tape) (execSteps p tape cells)
-exec-append [] q tape cells = refl
-exec-append (s ∷ p) q tape cells =
-    exec-append p q (drop (takes s) tape) (execStep s tape cells)
-    ∙ ap (λ (t : List ℕ). execSteps q t (execSteps p (drop (takes s) tape) (execStep s tape cells))) (drop-drop (randsOf p) (takes s) tape)
-
-pub exec-size : (ss : List Step) (tape cells : List ℕ) → length (execSteps ss tape cells) ≡ length cells
-unfolding execStep
-exec-size [] tape cells = refl
-exec-size (s ∷ ss) tape cells =
-    exec-size ss (drop (takes s) tape) (execStep s tape cells) ∙ length-set cells (dest s) (becomes s (λ c. getD cells c 0) (getD tape 0 0))
 
 -- `ss` to do on `cells` from place t of the tape on has come to `ts` to do on `cells'` from t' on
 pub record Left (tape : List ℕ) (ss : List Step) (t : ℕ) (cells : List ℕ) (ts : List Step) (t' : ℕ) (cells' : List ℕ) : Type 0 where
@@ -56,9 +44,9 @@ module _ {tape : List ℕ} {ss : List Step} {t : ℕ} {cells : List ℕ} where
   pub part : {t' t'' : ℕ} {cells' cells'' : List ℕ} (us ts : List Step) → Left tape ss t cells (us ++ ts) t' cells' → Ran us tape t' cells' cells'' t'' → Left tape ss t cells ts t'' cells''
   part {t'} {t''} {cells'} {cells''} us ts l r =
       record {
-        same = l .same ∙ exec-append us ts (drop t' tape) cells' ∙ ap₂ (execSteps ts) (drop-drop (randsOf us) t' tape ∙ ap (λ (k : ℕ). drop k tape) (sym (r .place))) (sym (r .cells));
+        same = l .same ∙ exec-steps-append us ts (drop t' tape) cells' ∙ ap₂ (execSteps ts) (drop-drop (randsOf us) t' tape ∙ ap (λ (k : ℕ). drop k tape) (sym (r .place))) (sym (r .cells));
         ends = omega (arith, l .ends, r .place, rands-append us ts);
-        size = ap length (r .cells) ∙ exec-size us (drop t' tape) cells' ∙ l .size;
+        size = ap length (r .cells) ∙ exec-steps-size us (drop t' tape) cells' ∙ l .size;
       }
 
   pub enough : {t' : ℕ} {cells' : List ℕ} (us ts : List Step) → Left tape ss t cells (us ++ ts) t' cells' → Enough tape t ss → Enough tape t' us

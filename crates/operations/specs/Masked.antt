@@ -2,13 +2,14 @@
 -- that defines them has demand 3's secrecy in terms of the operands' shares; and split and join.
 use mathlib.Core.Path.{_≡_}
 use mathlib.Core.List.{List, []}
-use Prim.Native.Nat.{ℕ, suc, _≤_, _<_}
+use Prim.Native.Nat.{ℕ, _≤_, _<_}
 use lib.ListN.{length, getD}
 use Rattle.masking.specs.Translation.{program}
 use Rattle.masking.specs.Foretold.{foretoldTape}
 use Rattle.masking.specs.Machine.{Words}
 use Rattle.masking.specs.Secrecy.{Hidden}
-use Rattle.operations.specs.Shares.{placed, resultShares, callAnswer, resultAfter}
+use Rattle.word.specs.Answers as answers
+use Rattle.operations.specs.Shares.{placed, wholeRun, resultShares, callAnswer, resultAfter}
 use Rattle.binary64.specs.Product.{product}
 use Rattle.binary64.specs.Sum.{sum}
 use Rattle.binary64.specs.Floor.{floor}
@@ -64,6 +65,15 @@ CallJoinsOne plan op =
     (x result work tape : List ℕ) → Words x → Words tape → callAnswer plan x (length x) result work tape .number ≡ 0
     → xorAll (resultAfter plan x [] (length x) result work tape) ≡ op (xorAll x)
 
+-- the share run that defines a result goes over the whole program and uses just the tape words that the call's answer gives; over a shorter
+-- tape it is turned down with the call's number
+pub record WholeRun (plan : List ℕ) (n : ℕ) (x y tape : List ℕ) : Type 0 where
+  pub done : foretoldTape n plan ≤ length tape → wholeRun plan n x y tape ≡ answers.done (length (program n plan)) (foretoldTape n plan)
+  pub short : length tape < foretoldTape n plan → wholeRun plan n x y tape ≡ answers.refused 6
+
+abbrev pub RunsWhole : List ℕ → Type 0
+RunsWhole plan = (n : ℕ) → 2 ≤ n → n ≤ 8 → (x y tape : List ℕ) → WholeRun plan n x y tape
+
 -- split and join go there and back: the shares, and the calls where split is not turned down
 abbrev pub RoundTrip : Type 0
 RoundTrip = (word : ℕ) (masks : List ℕ) → xorAll (splitOf word masks) ≡ word
@@ -73,6 +83,9 @@ CallsRoundTrip = (word : ℕ) (tape out : List ℕ) → splitAnswer (length out)
 
 -- all that is proved of the operations on shares
 pub record Masked : Type 0 where
+  pub product-run : RunsWhole productPlan
+  pub sum-run : RunsWhole sumPlan
+  pub floor-run : RunsWhole floorPlan
   pub product-joins : Joins productPlan product
   pub sum-joins : Joins sumPlan sum
   pub floor-joins : JoinsOne floorPlan floor
@@ -82,4 +95,5 @@ pub record Masked : Type 0 where
   pub product-secret : Secretive productPlan
   pub sum-secret : Secretive sumPlan
   pub floor-secret : SecretiveOne floorPlan
+  pub shares-join : RoundTrip
   pub split-join : CallsRoundTrip

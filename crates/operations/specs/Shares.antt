@@ -11,7 +11,7 @@ use Rattle.word.specs.Layout.{cell}
 use Rattle.word.specs.Answers.{done, refused, given, afterCall}
 use Rattle.masking.specs.Translation.{shares, program}
 use Rattle.masking.specs.Foretold.{foretoldTape}
-use Rattle.masking.specs.Runs.{State, runCells}
+use Rattle.masking.specs.Runs.{runAnswer, runCells}
 
 -- the answer, by lengths: 1 "share count not 2..8", 4 "a slice of wrong length", 6 "tape too short"; an operation with one operand hands n
 -- for `other`
@@ -31,7 +31,10 @@ placedIn r i (x ∷ xs) cells = placedIn r (suc i) xs (set cells (cell i r) x)
 unfoldable pub placed : List ℕ → List ℕ → List ℕ
 placed x y = placedIn 1 0 y (placedIn 0 0 x (replicate 512 0))
 
--- the cells after a share run over the whole translated plan
+-- a share run over the whole translated plan: its answer, and the cells afterwards
+abbrev pub wholeRun : List ℕ → ℕ → List ℕ → List ℕ → List ℕ → Answer
+wholeRun plan n x y tape = runAnswer (program n plan) tape (record { cells = placed x y; place = 0; tapePlace = 0 }) (length (program n plan))
+
 unfoldable pub finished : List ℕ → ℕ → List ℕ → List ℕ → List ℕ → List ℕ
 finished plan n x y tape = runCells (program n plan) tape (record { cells = placed x y; place = 0; tapePlace = 0 }) (length (program n plan))
 

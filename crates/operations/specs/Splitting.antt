@@ -1,6 +1,6 @@
 -- Split and join, from document 01's section "Calls and their turn-downs": "Split (1 by the output's length, 6 below n − 1 tape words): shares
 -- 1 and up are the tape's words in order. Join (1): the word, 0 when turned down." They name no counts.
-use mathlib.Core.Bool.{Bool, not, _&&_, cond}
+use mathlib.Core.Bool.{not, _&&_, cond}
 use mathlib.Core.List.{List, [], _∷_}
 use Prim.Native.Nat.{ℕ, _-_}
 use lib.Dec.{leb, ltb, eqb}

@@ -2,7 +2,6 @@
 ghost use mathlib.Core.Path.{_≡_};
 ghost use lib.ListN.{length};
 ghost use Rattle.word.specs.Word.{planStep};
-ghost use Rattle.word.specs.Answers.{firstBad};
 ghost use Rattle.plain.specs.Machine as machine;
 ghost use Rattle.plain.specs.Call.{plainAnswer, plainCells};
 use word::answer::Answer;

@@ -14,4 +14,7 @@ built-ins =
       product-cost = cost.product-cost;
       sum-cost = cost.sum-cost;
       floor-cost = cost.floor-cost;
+      product-figures = cost.product-figures;
+      sum-figures = cost.sum-figures;
+      floor-figures = cost.floor-figures;
     }

@@ -1,6 +1,6 @@
 -- Running a plan on named registers: a plan's words as steps, runs that follow each other, and 32 cells as a list that computes.
 -- Rests on word's Together (a step's word taken apart is the step) and plain's Machine.
-use mathlib.Core.Path.{_≡_, refl, sym, ap, ap₂, _∙_}
+use mathlib.Core.Path.{_≡_, refl, sym, ap, _∙_}
 use mathlib.Core.Bool.{Bool, true, false, _&&_}
 use mathlib.Core.List.{List, [], _∷_, _++_, map}
 use Prim.Native.Nat.{ℕ, zero, suc, _+_, _<_}

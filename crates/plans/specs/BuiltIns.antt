@@ -1,11 +1,11 @@
 -- What is proved of the three built-in plans, as one statement.
-use mathlib.Core.List.{List, [], _∷_}
+use mathlib.Core.List.{[], _∷_}
 use Prim.Native.Nat.{ℕ}
 use Rattle.binary64.specs.Product.{product}
 use Rattle.binary64.specs.Sum.{sum}
 use Rattle.binary64.specs.Floor.{floor}
 use Rattle.plans.specs.Computes.{Computes}
-use Rattle.plans.specs.Cost.{Cost}
+use Rattle.plans.specs.Cost.{Cost, Figures}
 use Rattle.plans.specs.ProductPlan.{productPlan}
 use Rattle.plans.specs.SumPlan.{sumPlan}
 use Rattle.plans.specs.FloorPlan.{floorPlan}
@@ -22,3 +22,7 @@ pub record BuiltIns : Type 0 where
   pub product-cost : Cost productPlan (0 ∷ 1 ∷ []) 100
   pub sum-cost : Cost sumPlan (0 ∷ 1 ∷ []) 90
   pub floor-cost : Cost floorPlan (0 ∷ []) 30
+  -- words, and ANDs and ADDs among them
+  pub product-figures : Figures productPlan 810 65 2
+  pub sum-figures : Figures sumPlan 300 33 4
+  pub floor-figures : Figures floorPlan 83 11 1

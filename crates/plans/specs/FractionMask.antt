@@ -1,4 +1,4 @@
--- The head that the plans of the roundings to whole numbers share: a mask W over the bits of the fraction, and a mask U for a magnitude
+-- The head of a rounding to whole numbers (floor's): a mask W over the bits of the fraction, and a mask U for a magnitude
 -- below 1. Registers: 0 the operand, 3 its E, 4 the tests Z, 5 W, 6 U; 7, 8 and 9 are scratch.
 use mathlib.Core.List.{List, [], _∷_, _++_}
 use Prim.Native.Nat.{ℕ}

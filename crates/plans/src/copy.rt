@@ -1,34 +1,19 @@
-// Copying a built-in plan out.
-use crate::built_in::BuiltIn;
+// Copying a plan out.
 use word::answer::Answer;
 ghost use mathlib.Core.Path.{_≡_};
-ghost use Rattle.plans.specs.BuiltIn.{planOf};
-ghost use Rattle.plans.specs.BuiltIns.{BuiltIns};
 ghost use Rattle.plans.specs.Copy.{copyAnswer, copyOut};
 
 // The plan's words to the front of `out`, unless `out` is too short for them.
-pub fn copy(plan: BuiltIn, out: &mut [u32]) -> Answer
-    ensures { λ r. ⌜ (r ≡ copyAnswer (planOf plan) (now (out .entry))) × (now (out .exit) ≡ copyOut (planOf plan) (now (out .entry))) ⌝ }
-    ensures holds { λ _. ⌜ BuiltIns ⌝ }
+pub fn copy(plan: &[u32], out: &mut [u32]) -> Answer
+    ensures { λ r. ⌜ (r ≡ copyAnswer (now (plan .entry)) (now (out .entry))) × (now (out .exit) ≡ copyOut (now (plan .entry)) (now (out .entry))) ⌝ }
 {
-    let n = plan.length();
-    if out.len() < n {
-        return Answer {
-            number: 4,
-            place: 0,
-            words: 0,
-            tape: 0,
-        };
+    if out.len() < plan.len() {
+        return Answer::refused(4);
     }
     let mut i = 0;
-    while i < n {
-        out[i] = plan.word(i);
+    while i < plan.len() {
+        out[i] = plan[i];
         i += 1;
     }
-    Answer {
-        number: 0,
-        place: 0,
-        words: n,
-        tape: 0,
-    }
+    Answer::done(plan.len(), 0)
 }

@@ -1,6 +1,5 @@
 // The words of floor's plan.
 ghost use mathlib.Core.Path.{_≡_};
-ghost use lib.ListN.{length, getD};
 ghost use Rattle.plans.specs.FloorPlan.{floorPlan};
 
 const FLOOR: [u32; 83] = [
@@ -88,19 +87,6 @@ const FLOOR: [u32; 83] = [
     0x30081408,
     0x20080407,
 ];
-
-pub fn length() -> usize
-    ensures { λ r. ⌜ r ≡ length floorPlan ⌝ }
-{
-    83
-}
-
-// Word i; 0 past the end.
-pub fn word(i: usize) -> u32
-    ensures { λ r. ⌜ r ≡ getD floorPlan i 0 ⌝ }
-{
-    if i < 83 { FLOOR[i] } else { 0 }
-}
 
 // The whole table.
 pub fn words() -> [u32; 83]

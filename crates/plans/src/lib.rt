@@ -1,12 +1,10 @@
 // The built-in plans: constant tables of their words, and the calls that copy them out. `specs/` has the plans as steps, and `proofs/` what
 // they compute.
-pub mod built_in;
 mod copy;
 mod floor_table;
 mod product_table;
 mod sum_table;
 
-use built_in::BuiltIn;
 use word::answer::Answer;
 ghost use mathlib.Core.Path.{_≡_};
 ghost use Rattle.plans.specs.BuiltIns.{BuiltIns};
@@ -22,7 +20,8 @@ pub fn copy_product(out: &mut [u32]) -> Answer
     ensures { λ r. ⌜ (r ≡ copyAnswer productPlan (now (out .entry))) × (now (out .exit) ≡ copyOut productPlan (now (out .entry))) ⌝ }
     ensures holds { λ _. ⌜ BuiltIns ⌝ }
 {
-    copy::copy(BuiltIn::Product, out)
+    let plan = product_table::words();
+    copy::copy(&plan, out)
 }
 
 // Copies the sum's plan to the front of `out`.
@@ -30,7 +29,8 @@ pub fn copy_sum(out: &mut [u32]) -> Answer
     ensures { λ r. ⌜ (r ≡ copyAnswer sumPlan (now (out .entry))) × (now (out .exit) ≡ copyOut sumPlan (now (out .entry))) ⌝ }
     ensures holds { λ _. ⌜ BuiltIns ⌝ }
 {
-    copy::copy(BuiltIn::Sum, out)
+    let plan = sum_table::words();
+    copy::copy(&plan, out)
 }
 
 // Copies floor's plan to the front of `out`.
@@ -38,7 +38,8 @@ pub fn copy_floor(out: &mut [u32]) -> Answer
     ensures { λ r. ⌜ (r ≡ copyAnswer floorPlan (now (out .entry))) × (now (out .exit) ≡ copyOut floorPlan (now (out .entry))) ⌝ }
     ensures holds { λ _. ⌜ BuiltIns ⌝ }
 {
-    copy::copy(BuiltIn::Floor, out)
+    let plan = floor_table::words();
+    copy::copy(&plan, out)
 }
 
 // The product's plan as a value, for callers that run it at once.
@@ -55,7 +56,7 @@ pub fn sum_words() -> [u32; 300]
     sum_table::words()
 }
 
-// The floor's plan as a value, for callers that run it at once.
+// Floor's plan as a value, for callers that run it at once.
 pub fn floor_words() -> [u32; 83]
     ensures { λ r. ⌜ r ≡ floorPlan ⌝ }
 {

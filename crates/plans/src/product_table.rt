@@ -1,6 +1,5 @@
 // The words of the product's plan.
 ghost use mathlib.Core.Path.{_≡_};
-ghost use lib.ListN.{length, getD};
 ghost use Rattle.plans.specs.ProductPlan.{productPlan};
 
 const PRODUCT: [u32; 810] = [
@@ -815,19 +814,6 @@ const PRODUCT: [u32; 810] = [
     0x5044223F,
     0x20080411,
 ];
-
-pub fn length() -> usize
-    ensures { λ r. ⌜ r ≡ length productPlan ⌝ }
-{
-    810
-}
-
-// Word i; 0 past the end.
-pub fn word(i: usize) -> u32
-    ensures { λ r. ⌜ r ≡ getD productPlan i 0 ⌝ }
-{
-    if i < 810 { PRODUCT[i] } else { 0 }
-}
 
 // The whole table.
 pub fn words() -> [u32; 810]

@@ -1,6 +1,5 @@
 // The words of the sum's plan.
 ghost use mathlib.Core.Path.{_≡_};
-ghost use lib.ListN.{length, getD};
 ghost use Rattle.plans.specs.SumPlan.{sumPlan};
 
 const SUM: [u32; 300] = [
@@ -305,19 +304,6 @@ const SUM: [u32; 300] = [
     0x5030183F,
     0x2008040C,
 ];
-
-pub fn length() -> usize
-    ensures { λ r. ⌜ r ≡ length sumPlan ⌝ }
-{
-    300
-}
-
-// Word i; 0 past the end.
-pub fn word(i: usize) -> u32
-    ensures { λ r. ⌜ r ≡ getD sumPlan i 0 ⌝ }
-{
-    if i < 300 { SUM[i] } else { 0 }
-}
 
 // The whole table.
 pub fn words() -> [u32; 300]

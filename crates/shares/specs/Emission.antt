@@ -42,7 +42,7 @@ onceStep (CopyIn b) i = Shl (cellY i) (shareCell i b) 0
 onceStep (Square a) i = And (cellZ i) (shareCell i a) (cellY i)
 onceStep (CopyOut d) i = Shl (shareCell i d) (cellZ i) 0
 
--- the registers that a step names are the plan's 32 or the helpers
+-- the registers that a step names: the plan's 32, and the helpers from 32 on (below 40 is all that the cells' places need)
 abbrev pub Registers : Step → Type 0
 Registers (Const d k) = d < 40
 Registers (Xor d a b) = (d < 40) × (a < 40) × (b < 40)

@@ -10,7 +10,8 @@ pub struct Places {
     pub tape: usize,
 }
 
-// A share run for each budget. The cells and places afterwards are those of masking's `inARow`, of which `demand3` is proved.
+// A share run for each budget. The cells and places afterwards are those of masking's `inARow`; of a translated plan from place 0 that is
+// what `demand3` speaks of.
 pub fn runs_in_a_row(
     program: &[u32],
     place: usize,

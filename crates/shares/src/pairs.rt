@@ -2,7 +2,7 @@
 ghost use mathlib.Core.List.{[], _∷_};
 ghost use Prim.Native.Nat.{_+_, _-_, _<_};
 ghost use lib.ListN.{length};
-ghost use Rattle.masking.specs.Translation.{Pair, pairs, pairsOf, shares, upFrom};
+ghost use Rattle.masking.specs.Translation.{pairs, pairsOf, shares, upFrom};
 ghost use Rattle.shares.specs.Emission.{Emits, PairingRegisters, Room, pairSteps};
 ghost use Rattle.shares.specs.declared.pairs.Pairing.the-variants.{Refresh, Products};
 use crate::emit::put;

@@ -14,7 +14,7 @@ use Rattle.word.specs.declared.step.Step.the-variants.{Const, Xor, And, 
 use Rattle.word.specs.declared.step.Decoded.{Decoded}
 use Rattle.word.specs.declared.step.Decoded.the-variants.{Good, Bad}
 use Rattle.word.specs.Word.{kindOf, bit27, fieldD, fieldA, fieldB, either, row, named, kindNumber, within, inPlan, inProgram, held, taken, put, wordOf}
-use Rattle.word.specs.Parts.{OfParts, OfNone, Exact}
+use Rattle.word.specs.Parts.{OfParts, OfNone, Exact, WordsExact}
 
 -- a field keeps nine bits
 pub put-fields : (k d a b : ℕ) → put k d (a % 512) (b % 512) ≡ put k d a b
@@ -247,3 +247,6 @@ taken-rule rule w s = by (named w)
     by : (d : Decoded) → held rule d ≡ Good s → T (rule s)
     by (Good t) = pick (rule t) (Good t) Bad s (λ r e. rw (← (same-step t s e), r) tt) (never s)
     by Bad = never s
+
+pub words-exact : WordsExact
+words-exact = record { plans = plan-exact; programs = program-exact }

@@ -36,7 +36,8 @@ helper i h = 288 + 8 * i + h
 abbrev pub pairCount : ℕ → ℕ
 pairCount n = n * (n - 1) / 2
 
--- share words of a plan word by its kind (1..8): AND "5n² − 2n words", ADD "60n² − 3n words", others "Each n words"
+-- share words of a plan word by its kind: AND "5n² − 2n words", ADD "60n² − 3n words", others "Each n words". No plan word has a kind
+-- outside 1 to 8; n stands there too.
 unfoldable pub lengthOf : ℕ → ℕ → ℕ
 lengthOf k n = cond (eqb k 3) (5 * (n * n) - 2 * n) (cond (eqb k 8) (60 * (n * n) - 3 * n) n)
 

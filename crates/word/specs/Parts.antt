@@ -5,9 +5,8 @@ use mathlib.Core.Logic.{_⊎_}
 use Prim.Native.Nat.{ℕ, _^_, _<_}
 use lib.Dec.{T}
 use Rattle.word.specs.declared.step.Step.{Step}
-use Rattle.word.specs.declared.step.Decoded.{Decoded}
 use Rattle.word.specs.declared.step.Decoded.the-variants.{Good, Bad}
-use Rattle.word.specs.Word.{taken, wordOf}
+use Rattle.word.specs.Word.{taken, wordOf, inPlan, inProgram}
 
 -- a word that is not bad is what its parts put together again, and these parts are in the rule's range
 pub record OfParts (rule : Step → Bool) (w : ℕ) : Type 0 where
@@ -25,3 +24,8 @@ pub record OfNone (rule : Step → Bool) (w : ℕ) : Type 0 where
 pub record Exact (rule : Step → Bool) : Type 0 where
   pub back : (s : Step) → T (rule s) → (wordOf s < 2 ^ 32) × (taken rule (wordOf s) ≡ Good s)
   pub every : (w : ℕ) → w < 2 ^ 32 → OfParts rule w ⊎ OfNone rule w
+
+-- what is proved: so it is by the rule of plans and by that of share programs
+pub record WordsExact : Type 0 where
+  pub plans : Exact inPlan
+  pub programs : Exact inProgram

@@ -54,6 +54,7 @@ within c (Spread d a) = ltb d c && ltb a c
 within c (Add d a b) = ltb d c && (ltb a c && ltb b c)
 within c (Rand d) = ltb d c
 
+-- the numbers of the table's rows
 abbrev pub kindNumber : Step → ℕ
 kindNumber (Const d k) = 1
 kindNumber (Xor d a b) = 2
@@ -83,9 +84,11 @@ abbrev pub held : (Step → Bool) → Decoded → Decoded
 held rule (Good s) = either (rule s) (Good s) Bad
 held rule Bad = Bad
 
+-- the step that a word names, by its fields; "bit 27 zero"
 unfoldable pub named : ℕ → Decoded
 named w = either (eqb (bit27 w) 0) (row (kindOf w) (fieldD w) (fieldA w) (fieldB w)) Bad
 
+-- a word taken apart by a rule, by that of plans, and by that of share programs
 abbrev pub taken : (Step → Bool) → ℕ → Decoded
 taken rule w = held rule (named w)
 
@@ -104,6 +107,7 @@ isGood Bad = false
 unfoldable pub put : ℕ → ℕ → ℕ → ℕ → ℕ
 put k d a b = k % 16 * 2 ^ 28 + d % 512 * 2 ^ 18 + a % 512 * 2 ^ 9 + b % 512
 
+-- the word of a step
 abbrev pub wordOf : Step → ℕ
 wordOf (Const d k) = put 1 d (k / 512) k
 wordOf (Xor d a b) = put 2 d a b

@@ -1,6 +1,5 @@
 // What AND does for each pair of shares.
 ghost use mathlib.Core.Path.{_≡_};
-ghost use mathlib.Core.List.{[], _∷_};
 ghost use Prim.Native.Nat.{_+_, _-_, _≤_, _<_};
 ghost use lib.ListN.{length};
 ghost use Rattle.masking.specs.Translation.{pairs, pairsOf, refresh, scratch, shares, upFrom};

@@ -1,41 +1,42 @@
 -- `plans::copy::copy` meets its contract: the loop keeps that the words passed are copied (Copying).
-use mathlib.Core.Path.{_≡_, refl, ap, _∙_, subst}
-use Prim.Native.Nat.{ℕ, _-_, _≤_, _<_}
+use mathlib.Core.Path.{_≡_, refl, _∙_}
+use Prim.Native.Nat.{_-_, _≤_}
 use native.Mathlib.Nat.{le-antisymm}
 use native.Mathlib.Omega.{arith}
 use lib.ListN.{length}
 use borrow.Author.Needs.{needs}
-use Rattle.plans.proofs.BuiltIns.{built-ins}
-use Rattle.word.specs.Answers.{done}
-use Rattle.plans.specs.BuiltIn.{planOf}
 use Rattle.plans.proofs.Copying.{Copied, none-copied, one-copied, all-copied, copy-refused, copy-done}
 use Rattle.plans.proofs.copy.copy.Statement.{statement}
 use Rattle.plans.proofs.copy.copy.Tie as tie
 
 abbrev Inv-loop : tie.InvT-loop
-Inv-loop plan out₀ n i₀ out i = (i ≤ n) × (length out ≡ length out₀) × Copied (planOf plan) out₀ i out
+Inv-loop plan out₀ i₀ out i = (i ≤ length plan) × (length out ≡ length out₀) × Copied plan out₀ i out
 
 abbrev μ-loop : tie.MeasureT-loop
-μ-loop plan out₀ n i₀ out i = n - i
+μ-loop plan out₀ i₀ out i = length plan - i
 
-length-requires : tie.Need-length-requires Inv-loop μ-loop
-length-requires c κs = search needs
+refused-requires : tie.Need-refused-requires Inv-loop μ-loop
+refused-requires c κs = search needs
 
 returns : tie.Need-returns Inv-loop μ-loop
 returns c =
-    let a = c .before .before .before .args in
-    (copy-refused (planOf (a .plan)) (a .out .now) (subst (λ (n : ℕ). length (a .out .now) < n) (c .before .length .ensures) (c .if1 .taken)), built-ins)
+    let a = c .before .before .before .before .args in
+    let r = copy-refused (a .plan .now) (a .out .now) (c .before .if1 .taken) in
+    (c .refused .ensures ∙ r .0, r .1)
 
 loop-holds : tie.Need-loop-holds Inv-loop μ-loop
 loop-holds c =
     let a = c .before .before .before .args in
-    (omega arith, refl, none-copied (planOf (a .plan)) (a .out .now))
-
-word-requires : tie.Need-word-requires Inv-loop μ-loop
-word-requires c κs = search needs
+    (omega arith, refl, none-copied (a .plan .now) (a .out .now))
 
 mul-out : tie.Need-mul-out Inv-loop μ-loop
 mul-out c = search needs
+
+shared-slice-read-out : tie.Need-shared-slice-read-out Inv-loop μ-loop
+shared-slice-read-out c = search needs
+
+mul-out-2 : tie.Need-mul-out-2 Inv-loop μ-loop
+mul-out-2 c = search needs
 
 slice-write-out : tie.Need-slice-write-out Inv-loop μ-loop
 slice-write-out c = search needs
@@ -49,28 +50,22 @@ loop-less c = search needs
 loop-again : tie.Need-loop-again Inv-loop μ-loop
 loop-again c =
     let l = c .before .before in
-    let b = l .before .before in
-    let a = b .before .before .args in
-    let n = b .length .ensures in (
-      omega arith,
-      search needs,
-      one-copied (planOf (a .plan)) (a .out .now) (l .loop .out) (l .loop .i) (l .loop .inv .2) (subst (λ (x : ℕ). x ≤ length (a .out .now)) n (l .before .if1 .left))
-          (c .word .result) (subst (λ (x : ℕ). l .loop .i < x) n (c .before .loop-test .taken)) (c .word .ensures),
-    )
+    let a = l .before .before .before .before .args in
+    (omega arith, search needs, one-copied (a .plan .now) (a .out .now) (l .loop .out) (l .loop .i) (l .loop .inv .2) (l .before .if1 .left) _ (c .before .loop-test .taken) refl)
+
+done-requires : tie.Need-done-requires Inv-loop μ-loop
+done-requires c κs = search needs
 
 same-length : tie.Need-same-length Inv-loop μ-loop
 same-length c = search needs
 
 returns-2 : tie.Need-returns-2 Inv-loop μ-loop
 returns-2 c =
-    let l = c .before in
-    let b = l .before .before in
-    let a = b .before .before .args in
-    let n = b .length .ensures in
-    let room = subst (λ (x : ℕ). x ≤ length (a .out .now)) n (l .before .if1 .left) in
-    let all = all-copied (planOf (a .plan)) (a .out .now) (l .loop .out) (l .loop .i) (l .loop .inv .2) room (le-antisymm (l .loop .inv .0) (c .loop-test .left) ∙ n) in
-    let r = copy-done (planOf (a .plan)) (a .out .now) (l .loop .out) room all in
-    ((ap (λ (x : ℕ). done x 0) n ∙ r .0, r .1), built-ins)
+    let l = c .before .before in
+    let a = l .before .before .before .before .args in
+    let all = all-copied (a .plan .now) (a .out .now) (l .loop .out) (l .loop .i) (l .loop .inv .2) (l .before .if1 .left) (le-antisymm (l .loop .inv .0) (c .before .loop-test .left)) in
+    let r = copy-done (a .plan .now) (a .out .now) (l .loop .out) (l .before .if1 .left) all in
+    (c .done .ensures ∙ r .0, r .1)
 
 pub copy-spec : {M : Type 1} → statement M
 copy-spec =
@@ -78,14 +73,16 @@ copy-spec =
     (tie.spec
     Inv-loop
     μ-loop
-    length-requires
+    refused-requires
     returns
     loop-holds
-    word-requires
     mul-out
+    shared-slice-read-out
+    mul-out-2
     slice-write-out
     add-i
     loop-less
     loop-again
+    done-requires
     same-length
     returns-2)
