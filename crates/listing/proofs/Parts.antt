@@ -1,18 +1,18 @@
--- A listing's lines part by part: what a part has written and what is still to write of it, and that parts in turn list the whole plan.
+-- A listing's lines part by part: how many words fit a part, what it has written and what is still to write of it.
 -- Rests on PlanWord's bound for one word's lines.
 use mathlib.Core.Path.{_≡_, refl, sym, ap, ap₂, _∙_}
 use mathlib.Core.Bool.{Bool, true, false, cond}
-use mathlib.Core.List.{List, [], _∷_, _++_, append-assoc}
-use Prim.Native.Nat.{ℕ, zero, suc, _+_, _-_, _≤_, _<_}
+use mathlib.Core.List.{List, [], _∷_}
+use Prim.Native.Nat.{ℕ, suc, _+_, _-_, _≤_, _<_}
 use native.Mathlib.Numerals.{add-one}
 use native.Mathlib.Omega.{arith}
 use lib.Dec.{ltb}
-use lib.ListN.{length, take, drop, getD, length-append, length-drop, take-append-drop, drop-of-length-le}
+use lib.ListN.{length, take, drop, getD, length-append, length-drop, drop-of-length-le}
 use lib.Seq.{drop-cons}
 use borrow.Author.Tests.{lt-ltb, le-ltb, ltb-false}
 use borrow.Rule.Slice.PartMut.{putMid}
 use Rattle.shares.proofs.Program.{part-is, part-back}
-use Rattle.listing.specs.Writing.{Wrote, Appends, ListsPart, wordLines, linesOf, wordBytes, fitCount, partsOf}
+use Rattle.listing.specs.Writing.{Wrote, Appends, ListsPart, wordLines, linesOf, wordBytes, fitCount}
 use Rattle.listing.proofs.Placed.{Left, start, renamed, part, whole, wrote, appended, appends-long}
 use Rattle.listing.proofs.PlanWord.{lines-most}
 
@@ -25,11 +25,29 @@ fit-none n (w ∷ ws) room h = ap (λ (b : Bool). cond b 0 (suc (fitCount n ws (
 fit-one : (n w : ℕ) (ws : List ℕ) (room : ℕ) → wordBytes ≤ room → fitCount n (w ∷ ws) room ≡ suc (fitCount n ws (room - length (wordLines n w)))
 fit-one n w ws room h = ap (λ (b : Bool). cond b 0 (suc (fitCount n ws (room - length (wordLines n w))))) (le-ltb room wordBytes h)
 
+-- room for any word's lines is enough for a next word
+pub fit-some : (n : ℕ) (plan : List ℕ) (from room : ℕ) → from < length plan → wordBytes ≤ room → 0 < fitCount n (drop from plan) room
+fit-some n plan from room l r =
+    omega (
+      arith,
+      ap (λ (p : List ℕ). fitCount n p room) (drop-cons plan from 0 l) ∙ fit-one n (getD plan from 0) (drop (suc from) plan) room r,
+    )
+
+-- no more words than there are
+fit-most : (n : ℕ) (plan : List ℕ) (room : ℕ) → fitCount n plan room ≤ length plan
+fit-most n [] room = omega arith
+fit-most n (w ∷ ws) room = by (ltb room wordBytes) (fit-most n ws (room - length (wordLines n w)))
+  where
+    by : (b : Bool) → fitCount n ws (room - length (wordLines n w)) ≤ length ws
+        → cond b 0 (suc (fitCount n ws (room - length (wordLines n w)))) ≤ suc (length ws)
+    by true h = omega arith
+    by false h = omega arith
+
 -- the words that a part lists
 abbrev fitted : ℕ → List ℕ → ℕ → List ℕ
 fitted n plan room = take (fitCount n plan room) plan
 
-fitted-most : (n : ℕ) (plan : List ℕ) (room : ℕ) → length (linesOf n (fitted n plan room)) ≤ room
+pub fitted-most : (n : ℕ) (plan : List ℕ) (room : ℕ) → length (linesOf n (fitted n plan room)) ≤ room
 fitted-most n [] room = omega arith
 fitted-most n (w ∷ ws) room = by (ltb room wordBytes) refl (fitted-most n ws (room - length (wordLines n w)))
   where
@@ -101,30 +119,7 @@ in-part text out at h l w =
     let a = appended w (omega (arith, ap length (part-is at out h), length-drop at out)) in
     record { written = part-back at out h text (a .written); ends = omega (arith, a .ends) }
 
--- a part of room enough for any word's lines moves on
-pub part-moves : {n : ℕ} {plan : List ℕ} {from : ℕ} {out after : List ℕ} {next bytes : ℕ} → ListsPart n plan from out after next bytes
-    → from < length plan → wordBytes ≤ length out → from < next
-part-moves {n} {plan} {from} {out} p l r =
-    let ws = drop (from + 1) plan in
-    let w = getD plan from 0 in
-    let d : drop from plan ≡ w ∷ ws = drop-cons plan from 0 l ∙ ap (λ (k : ℕ). w ∷ drop k plan) (sym (add-one from)) in
-    omega (arith, p .moved, ap (λ (q : List ℕ). fitCount n q (length out)) d ∙ fit-one n w ws (length out) r)
-
--- ---- parts in turn
-
-lines-append : (n : ℕ) (xs ys : List ℕ) → linesOf n (xs ++ ys) ≡ linesOf n xs ++ linesOf n ys
-lines-append n [] ys = refl
-lines-append n (x ∷ xs) ys = ap (λ (l : List ℕ). wordLines n x ++ l) (lines-append n xs ys) ∙ sym (append-assoc (wordLines n x) (linesOf n xs) (linesOf n ys))
-
-pub parts-all : (n room : ℕ) → wordBytes ≤ room → (turns : ℕ) (plan : List ℕ) → length plan ≤ turns → partsOf turns room n plan ≡ linesOf n plan
-parts-all n room h zero [] l = refl
-parts-all n room h zero (w ∷ ws) l = absurd (omega arith)
-parts-all n room h (suc turns) plan l =
-    let k = fitCount n plan room in
-    ap (λ (rest : List ℕ). linesOf n (take k plan) ++ rest) (parts-all n room h turns (drop k plan) (shorter plan l))
-    ∙ sym (lines-append n (take k plan) (drop k plan))
-    ∙ ap (linesOf n) (take-append-drop k plan)
-  where
-    shorter : (p : List ℕ) → length p ≤ suc turns → length (drop (fitCount n p room) p) ≤ turns
-    shorter [] e = omega (arith, length-drop {A = ℕ} (fitCount n [] room) [])
-    shorter (w ∷ ws) e = omega (arith, length-drop {A = ℕ} (fitCount n (w ∷ ws) room) (w ∷ ws), fit-one n w ws room h)
+-- a part ends at the plan's end at the latest, or where it began
+pub part-ends : {n : ℕ} {plan : List ℕ} {from : ℕ} {out after : List ℕ} {next bytes : ℕ} → ListsPart n plan from out after next bytes
+    → next ≤ from + (length plan - from)
+part-ends {n} {plan} {from} {out} p = omega (arith, p .moved, fit-most n (drop from plan) (length out), length-drop from plan)

@@ -1,10 +1,10 @@
--- What a program writes that goes by the functions of this crate is the listing. Rests on masking's steps of a plan without a bad word.
+-- The pieces in turn are the listing. Rests on masking's steps of a plan without a bad word.
 use mathlib.Core.Path.{_≡_, refl, sym, ap, ap₂, _∙_}
 use mathlib.Core.Bool.{Bool, true, false, cond}
 use mathlib.Core.List.{List, [], _∷_, _++_, append-nil}
 use Prim.Native.Nat.{ℕ, _≤_}
 use lib.Dec.{eqb}
-use borrow.Author.Tests.{le-leb, eqb-true}
+use borrow.Author.Tests.{le-leb, eqb-true, eqb-false}
 use Rattle.word.specs.Word.{planStep}
 use Rattle.masking.specs.Foretold.{Accepted}
 use Rattle.masking.specs.Translation.{program, wordsFor}
@@ -12,11 +12,11 @@ use Rattle.masking.proofs.emitted.Steps.{PlanWord, PlanWords, plan-words}
 use Rattle.shares.specs.Calls.{planChecked, measured, measureAnswer}
 use Rattle.shares.proofs.Counted.{accepted}
 use Rattle.listing.specs.Listing.{listAnswer, hexLines, firstLine, refusedLine, countOf, planOf, listing}
-use Rattle.listing.specs.Writing.{linesOf, partsOf, writtenOf, WrittenIsListing}
+use Rattle.listing.specs.Writing.{linesOf, listedWords, headOf, PiecesAreListing}
 use Rattle.listing.proofs.Hex.{lines-append}
 use Rattle.listing.proofs.Answered.{taken}
 use Rattle.listing.proofs.PlanWord.{lines-of-good}
-use Rattle.listing.proofs.Parts.{parts-all}
+use Rattle.listing.proofs.Piecewise.{listed-taken, listed-none, head-taken, head-refused, pieces-whole}
 
 -- Measure takes each word of a plan that it takes
 word-taken : (n w : ℕ) → 2 ≤ n → n ≤ 8 → PlanWord w → measureAnswer n (w ∷ []) .number ≡ 0
@@ -36,15 +36,18 @@ module _ (n : ℕ) (l : 2 ≤ n) (m : n ≤ 8) where
 pub lines-whole : (n : ℕ) (plan : List ℕ) → Accepted n plan → hexLines (program n plan) ≡ linesOf n plan
 lines-whole n plan A = lines-good n (A .least) (A .most) plan (plan-words plan (A .good))
 
-pub written-is-listing : WrittenIsListing
-unfolding writtenOf listing
-written-is-listing room h input = by (eqb (listAnswer input .number) 0) refl
+pub pieces-are-listing : PiecesAreListing
+unfolding listing
+pieces-are-listing room r input = pieces-whole room r input ∙ by (eqb (listAnswer input .number) 0) refl
   where
     by : (b : Bool) → eqb (listAnswer input .number) 0 ≡ b
-        → cond b (firstLine (countOf input) (listAnswer input .words) (listAnswer input .tape) ++ partsOf 2048 room (countOf input) (planOf input)) (refusedLine (listAnswer input .number))
+        → headOf input ++ linesOf (countOf input) (listedWords input)
         ≡ cond b (firstLine (countOf input) (listAnswer input .words) (listAnswer input .tape) ++ hexLines (program (countOf input) (planOf input))) (refusedLine (listAnswer input .number))
     by true e =
-        let A = accepted (countOf input) (planOf input) (measured (countOf input) (planOf input)) (taken input (eqb-true (listAnswer input .number) 0 e)) in
-        ap (λ (l : List ℕ). firstLine (countOf input) (listAnswer input .words) (listAnswer input .tape) ++ l)
-        (parts-all (countOf input) room h 2048 (planOf input) (A .short) ∙ sym (lines-whole (countOf input) (planOf input) A))
-    by false e = refl
+        let h = eqb-true (listAnswer input .number) 0 e in
+        let n = countOf input in
+        let A = accepted n (planOf input) (measured n (planOf input)) (taken input h) in
+        rw (head-taken input h, listed-taken input h, lines-whole n (planOf input) A)
+    by false e =
+        let h = eqb-false (listAnswer input .number) 0 e in
+        rw (head-refused input h, listed-none input h) (append-nil (refusedLine (listAnswer input .number)))

@@ -1,4 +1,5 @@
 -- The program `sharelist`, from document 01's section "A listed translation": what it makes of its input bytes, and the bytes that it writes.
+use mathlib.Core.Path.{_≡_}
 use mathlib.Core.Bool.{Bool, true, false, not, _&&_, _||_, cond}
 use mathlib.Core.List.{List, [], _∷_, _++_}
 use Prim.Native.Nat.{ℕ, zero, suc, _+_, _*_, _/_, _%_, _^_}
@@ -72,3 +73,11 @@ listing input =
     cond (eqb (listAnswer input .number) 0)
     (firstLine (countOf input) (listAnswer input .words) (listAnswer input .tape) ++ hexLines (program (countOf input) (planOf input)))
     (refusedLine (listAnswer input .number))
+
+-- the document's example: bytes 02 01 00 08 20 give the lines "shares 2 words 2 tape 0", "20080001" and "20884021"
+abbrev pub ExampleListed : Type 0
+ExampleListed =
+    listing (0x02 ∷ 0x01 ∷ 0x00 ∷ 0x08 ∷ 0x20 ∷ [])
+    ≡ (115 ∷ 104 ∷ 97 ∷ 114 ∷ 101 ∷ 115 ∷ 32 ∷ 50 ∷ 32 ∷ 119 ∷ 111 ∷ 114 ∷ 100 ∷ 115 ∷ 32 ∷ 50 ∷ 32 ∷ 116 ∷ 97 ∷ 112 ∷ 101 ∷ 32 ∷ 48 ∷ 10 ∷ [])
+    ++ ((50 ∷ 48 ∷ 48 ∷ 56 ∷ 48 ∷ 48 ∷ 48 ∷ 49 ∷ 10 ∷ [])
+    ++ (50 ∷ 48 ∷ 56 ∷ 56 ∷ 52 ∷ 48 ∷ 50 ∷ 49 ∷ 10 ∷ []))

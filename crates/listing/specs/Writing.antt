@@ -1,6 +1,7 @@
--- What the functions of this crate write: texts at the front of lent slices, and the lines of a listing part by part.
+-- What the functions of this crate write: texts at the front of lent slices, the lines of plan words part by part, and the whole listing
+-- piece by piece.
 use mathlib.Core.Path.{_≡_}
-use mathlib.Core.Bool.{cond}
+use mathlib.Core.Bool.{Bool, cond}
 use mathlib.Core.List.{List, [], _∷_, _++_}
 use Prim.Native.Nat.{ℕ, zero, suc, _+_, _-_, _≤_}
 use lib.Dec.{leb, ltb, eqb}
@@ -48,19 +49,55 @@ pub record ListsPart (n : ℕ) (plan : List ℕ) (from : ℕ) (out after : List 
   pub moved : next ≡ from + fitCount n (drop from plan) (length out)
   pub lines : Wrote (linesOf n (take (fitCount n (drop from plan) (length out)) (drop from plan))) out after bytes
 
--- what a program writes that goes by these functions with `room` bytes a part: the first line or the refusal, then parts, each from the
--- word at which the last one ended, `turns` of them at most
-abbrev pub partsOf : ℕ → ℕ → ℕ → List ℕ → List ℕ
-partsOf zero room n plan = []
-partsOf (suc turns) room n plan =
-    linesOf n (take (fitCount n plan room) plan) ++ partsOf turns room n (drop (fitCount n plan room) plan)
+-- ---- the listing piece by piece
 
-unfoldable pub writtenOf : ℕ → List ℕ → List ℕ
-writtenOf room input =
+-- the plan words that are listed: none where the input is turned down
+unfoldable pub listedWords : List ℕ → List ℕ
+listedWords input = keptUnless (eqb (listAnswer input .number) 0) (planOf input) []
+
+-- the first line, or that of the turn-down
+unfoldable pub headOf : List ℕ → List ℕ
+headOf input =
     cond (eqb (listAnswer input .number) 0)
-    (firstLine (countOf input) (listAnswer input .words) (listAnswer input .tape) ++ partsOf 2048 room (countOf input) (planOf input))
+    (firstLine (countOf input) (listAnswer input .words) (listAnswer input .tape))
     (refusedLine (listAnswer input .number))
 
--- it is the listing
-abbrev pub WrittenIsListing : Type 0
-WrittenIsListing = (room : ℕ) → wordBytes ≤ room → (input : List ℕ) → writtenOf room input ≡ listing input
+-- how many words piece k + 1 lists into `room` bytes: as many as fit, from word k on
+abbrev pub pieceCount : ℕ → List ℕ → ℕ → ℕ
+pieceCount room input k = fitCount (countOf input) (drop k (listedWords input)) room
+
+-- piece 0 is the first line or the refusal, and piece k + 1 has the lines from word k on. Past the last word, and so in every piece but 0
+-- of an input that is turned down, there is nothing.
+unfoldable pub pieceText : ℕ → List ℕ → ℕ → List ℕ
+pieceText room input zero = headOf input
+pieceText room input (suc k) = linesOf (countOf input) (take (pieceCount room input k) (drop k (listedWords input)))
+
+-- the words that are listed once a piece is: none by piece 0
+unfoldable pub wordsDone : ℕ → List ℕ → ℕ → ℕ
+wordsDone room input zero = 0
+wordsDone room input (suc k) = k + pieceCount room input k
+
+-- the piece that goes on from there; where there is no room for a word, and past the last word, the same piece again
+abbrev pub pieceNext : ℕ → List ℕ → ℕ → ℕ
+pieceNext room input from = suc (wordsDone room input from)
+
+-- no word is left
+abbrev pub pieceLast : ℕ → List ℕ → ℕ → Bool
+pieceLast room input from = leb (length (listedWords input)) (wordsDone room input from)
+
+-- a piece is written, with the number of the next one and whether it is the last
+pub record ListsPiece (input : List ℕ) (from : ℕ) (out after : List ℕ) (bytes next : ℕ) (last : Bool) : Type 0 where
+  pub text : Wrote (pieceText (length out) input from) out after bytes
+  pub moved : next ≡ pieceNext (length out) input from
+  pub ends : last ≡ pieceLast (length out) input from
+
+-- what is written with `room` bytes for each piece: pieces in turn up to the last, `turns` of them at most
+abbrev pub piecesFrom : ℕ → ℕ → List ℕ → ℕ → List ℕ
+piecesFrom zero room input from = []
+piecesFrom (suc turns) room input from =
+    fitting (pieceText room input from) room
+    ++ cond (pieceLast room input from) [] (piecesFrom turns room input (pieceNext room input from))
+
+-- from piece 0 on that is the listing: 2,049 turns are enough, one for the first line and one for each word of the longest plan
+abbrev pub PiecesAreListing : Type 0
+PiecesAreListing = (room : ℕ) → wordBytes ≤ room → (input : List ℕ) → piecesFrom 2049 room input 0 ≡ listing input

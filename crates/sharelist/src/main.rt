@@ -1,16 +1,10 @@
 // Reads a share count and a plan from standard input, and writes the plan's share program to standard output, one word a line, or the
-// number of the turn-down. A part of some tens of kilobytes is held at a time, never the whole share program.
+// number of the turn-down. A piece of some tens of kilobytes is held at a time, never the whole share program.
 ghost use Rattle.io.specs.Counts.{Counts};
 use libc::STDERR_FILENO;
 use libc::STDIN_FILENO;
 use libc::STDOUT_FILENO;
-use listing::input::list_answer;
-use listing::input::plan_words;
-use listing::input::share_count;
-use listing::lines::list_part;
-use listing::text::first_line;
-use listing::text::refused_line;
-use word::answer::Answer;
+use listing::pieces::list_piece;
 
 // One byte more than an input may have, so that a longer one is seen.
 const INPUT: usize = 8194;
@@ -24,43 +18,21 @@ fn written(text: &[u8]) -> bool {
     all
 }
 
-// The first line, or that of the turn-down.
-fn head(n: usize, answer: Answer) -> bool {
-    let mut line = [0u8; 96];
-    if answer.number == 0 {
-        let count = first_line(n, answer.words, answer.tape, &mut line);
-        return written(&line[..count]);
-    }
-    let count = refused_line(answer.number, &mut line);
-    written(&line[..count])
-}
-
-// The lines of the share words, part by part.
-fn lines(n: usize, plan: &[u32]) {
+// Writes the listing of an input, piece by piece.
+fn list(input: &[u8]) {
     let mut buffer = io::large_buffer();
-    let mut next = 0;
-    while next < plan.len() {
-        let part = list_part(n, plan, next, &mut buffer);
-        let bytes = part.bytes;
+    let mut at = 0;
+    loop {
+        let piece = list_piece(input, at, &mut buffer);
+        let bytes = piece.bytes;
         if !written(&buffer[..bytes]) {
             return;
         }
-        next = part.next;
+        if piece.last {
+            return;
+        }
+        at = piece.next;
     }
-}
-
-fn list(input: &[u8]) {
-    let answer = list_answer(input);
-    let n = share_count(input);
-    if !head(n, answer) {
-        return;
-    }
-    if answer.number != 0 {
-        return;
-    }
-    let mut plan = [0u32; 2048];
-    let count = plan_words(input, &mut plan);
-    lines(n, &plan[..count]);
 }
 
 // What was read: how many bytes, and whether up to the end of the input or of the buffer.

@@ -1,54 +1,67 @@
--- `sharelist::list` meets its contract.
-use Rattle.listing.proofs.Placed.{counts}
-use borrow.Author.Needs.{needs}
+-- `sharelist::list` meets its contract. The measure: the words that are left to list.
+use Rattle.listing.specs.Writing.{listedWords}
+use Rattle.listing.proofs.Piecewise.{goes-on}
+use Rattle.listing.proofs.Placed.{as-long, counts}
+use lib.ListN.{length}
+use native.Mathlib.Omega.{arith}
+use Prim.Native.Nat.{_-_}
+use mathlib.Core.Path.{_≡_, sym, _∙_}
 use Rattle.sharelist.proofs.list.Statement.{statement}
 use Rattle.sharelist.proofs.list.Tie as tie
 
-list-answer-requires : tie.Need-list-answer-requires
-list-answer-requires c κs = search needs
+abbrev Inv-loop : tie.InvT-loop
+Inv-loop input buffer₀ at₀ buffer at = 65536 ≡ length buffer
 
-share-count-requires : tie.Need-share-count-requires
-share-count-requires c κs = search needs
+abbrev μ-loop : tie.MeasureT-loop
+μ-loop input buffer₀ at₀ buffer at = length (listedWords input) - at
 
-head-requires : tie.Need-head-requires
-head-requires c κs = search needs
+large-buffer-requires : tie.Need-large-buffer-requires Inv-loop μ-loop
+large-buffer-requires c κs = tt
 
-returns : tie.Need-returns
-returns c = search needs
+loop-holds : tie.Need-loop-holds Inv-loop μ-loop
+loop-holds c = c .large-buffer .ensures
 
-returns-2 : tie.Need-returns-2
-returns-2 c = search needs
+slice-aggregate-list-piece : tie.Need-slice-aggregate-list-piece Inv-loop μ-loop
+slice-aggregate-list-piece c = c .before .loop .inv
 
-slice-aggregate-plan-words : tie.Need-slice-aggregate-plan-words
-slice-aggregate-plan-words c = search needs
+list-piece-requires : tie.Need-list-piece-requires Inv-loop μ-loop
+list-piece-requires c κs = tt
 
-plan-words-requires : tie.Need-plan-words-requires
-plan-words-requires c κs = search needs
+array-share-prefix-buffer : tie.Need-array-share-prefix-buffer Inv-loop μ-loop
+array-share-prefix-buffer c = counts (c .before .list-piece .ensures .text) .0
 
-array-share-prefix-plan : tie.Need-array-share-prefix-plan
-array-share-prefix-plan c = counts (c .before .plan-words .ensures) .0
+slice-aggregate-written : tie.Need-slice-aggregate-written Inv-loop μ-loop
+slice-aggregate-written c = counts (c .before .before .list-piece .ensures .text) .1
 
-slice-aggregate-lines : tie.Need-slice-aggregate-lines
-slice-aggregate-lines c = counts (c .before .before .plan-words .ensures) .1
+written-requires : tie.Need-written-requires Inv-loop μ-loop
+written-requires c κs = tt
 
-lines-requires : tie.Need-lines-requires
-lines-requires c κs = search needs
+returns : tie.Need-returns Inv-loop μ-loop
+returns c = tt
 
-returns-3 : tie.Need-returns-3
-returns-3 c = search needs
+returns-2 : tie.Need-returns-2 Inv-loop μ-loop
+returns-2 c = tt
+
+loop-less : tie.Need-loop-less Inv-loop μ-loop
+loop-less c = goes-on (c .before .before .before .before .before .list-piece .ensures) (c .if2 .left) (omega (arith, c .before .before .before .before .before .before .before .loop .inv))
+
+loop-again : tie.Need-loop-again Inv-loop μ-loop
+loop-again c = c .before .before .before .before .before .before .before .loop .inv ∙ sym (as-long (c .before .before .before .before .before .list-piece .ensures .text))
 
 pub list-spec : {M : Type 1} → statement M
 list-spec =
     tie.close
     (tie.spec
-    list-answer-requires
-    share-count-requires
-    head-requires
+    Inv-loop
+    μ-loop
+    large-buffer-requires
+    loop-holds
+    slice-aggregate-list-piece
+    list-piece-requires
+    array-share-prefix-buffer
+    slice-aggregate-written
+    written-requires
     returns
     returns-2
-    slice-aggregate-plan-words
-    plan-words-requires
-    array-share-prefix-plan
-    slice-aggregate-lines
-    lines-requires
-    returns-3)
+    loop-less
+    loop-again)

@@ -1,0 +1,150 @@
+-- The listing piece by piece: the words and the first line by the answer's cases, what a piece comes to by the calls that it makes, and
+-- that pieces fit, move on and together list all words. Rests on Parts' count of the words that fit.
+use mathlib.Core.Path.{_≡_, refl, sym, ap, ap₂, _∙_}
+use mathlib.Core.Bool.{Bool, true, false, cond}
+use mathlib.Core.List.{List, [], _∷_, _++_, append-assoc}
+use Prim.Native.Nat.{ℕ, zero, suc, _+_, _-_, _≤_, _<_}
+use native.Mathlib.Numerals.{add-one}
+use native.Mathlib.Omega.{arith}
+use lib.Dec.{leb, eqb}
+use lib.ListN.{length, take, drop, length-append, take-append-drop, drop-of-length-le}
+use lib.Seq.{drop-drop}
+use borrow.Author.Tests.{leb-true, leb-false, eqb-true, eqb-false, ne-eqb, lt-leb}
+use Rattle.word.specs.Answers.{keptUnless}
+use Rattle.shares.specs.Calls.{measured}
+use Rattle.shares.proofs.Counted.{accepted}
+use Rattle.listing.specs.Listing.{listAnswer, firstLine, refusedLine, countOf, planOf}
+use Rattle.listing.specs.Writing.{Wrote, ListsPart, ListsPiece, wordLines, linesOf, wordBytes, listedWords, headOf, pieceCount, pieceText, wordsDone, pieceNext, pieceLast, piecesFrom}
+use Rattle.listing.proofs.Placed.{fits}
+use Rattle.listing.proofs.Decimal.{decimal-most}
+use Rattle.listing.proofs.Answered.{taken}
+use Rattle.listing.proofs.Parts.{fit-some, fitted-most}
+
+-- ---- by the answer's cases
+
+module _ (input : List ℕ) where
+  pub listed-taken : listAnswer input .number ≡ 0 → listedWords input ≡ planOf input
+  unfolding listedWords
+  listed-taken h = ap (λ (k : ℕ). keptUnless (eqb k 0) (planOf input) []) h
+
+  pub listed-none : (listAnswer input .number ≡ 0 → ⊥) → listedWords input ≡ []
+  unfolding listedWords
+  listed-none h = ap (λ (b : Bool). keptUnless b (planOf input) []) (ne-eqb (listAnswer input .number) 0 h)
+
+  pub head-taken : listAnswer input .number ≡ 0 → headOf input ≡ firstLine (countOf input) (listAnswer input .words) (listAnswer input .tape)
+  unfolding headOf
+  head-taken h = rw h
+
+  pub head-refused : (listAnswer input .number ≡ 0 → ⊥) → headOf input ≡ refusedLine (listAnswer input .number)
+  unfolding headOf
+  head-refused h = rw (ne-eqb (listAnswer input .number) 0 h)
+
+  -- a plan that is listed has 2,048 words at most
+  pub listed-most : length (listedWords input) ≤ 2048
+  listed-most = by (eqb (listAnswer input .number) 0) refl
+    where
+      by : (b : Bool) → eqb (listAnswer input .number) 0 ≡ b → length (listedWords input) ≤ 2048
+      by true e =
+          let h = eqb-true (listAnswer input .number) 0 e in
+          omega (arith, ap length (listed-taken h), accepted (countOf input) (planOf input) (measured (countOf input) (planOf input)) (taken input h) .short)
+      by false e = omega (arith, ap length (listed-none (eqb-false (listAnswer input .number) 0 e)))
+
+-- ---- what a piece comes to
+
+none-left : (k : ℕ) → eqb k 0 ≡ leb k 0
+none-left zero = refl
+none-left (suc k) = ne-eqb (suc k) 0 (λ e. omega arith) ∙ sym (lt-leb (suc k) 0 (omega arith))
+
+module _ {input : List ℕ} {from : ℕ} {out after : List ℕ} {bytes : ℕ} where
+  -- piece 0
+  pub first-piece : {count : ℕ} → from ≡ 0 → count ≡ length (listedWords input) → Wrote (headOf input) out after bytes
+      → ListsPiece input from out after bytes 1 (eqb count 0)
+  unfolding pieceText wordsDone
+  first-piece {count} z e w = rw z (record { text = w; moved = refl; ends = none-left count ∙ ap (λ (k : ℕ). leb k 0) e })
+
+  -- each other one
+  pub next-piece : {count k : ℕ} → 0 < from → count ≡ length (listedWords input)
+      → ListsPart (countOf input) (listedWords input) (from - 1) out after k bytes
+      → ListsPiece input from out after bytes (k + 1) (leb count k)
+  unfolding pieceText wordsDone
+  next-piece {count} {k} h e p =
+      let z : from ≡ suc (from - 1) = omega arith in
+      rw z (record {
+        text = p .lines;
+        moved = add-one k ∙ ap suc (p .moved);
+        ends = ap₂ leb e (p .moved);
+      })
+
+-- ---- a piece fits and moves on
+
+head-most : (input : List ℕ) → length (headOf input) ≤ 96
+unfolding firstLine refusedLine
+head-most input = by (eqb (listAnswer input .number) 0) refl
+  where
+    by : (b : Bool) → eqb (listAnswer input .number) 0 ≡ b → length (headOf input) ≤ 96
+    by true e =
+        rw (head-taken input (eqb-true (listAnswer input .number) 0 e))
+        (simp length-append (omega (arith, decimal-most (countOf input), decimal-most (listAnswer input .words), decimal-most (listAnswer input .tape))))
+    by false e =
+        rw (head-refused input (eqb-false (listAnswer input .number) 0 e))
+        (simp length-append (omega (arith, decimal-most (listAnswer input .number))))
+
+module _ (room : ℕ) (r : wordBytes ≤ room) (input : List ℕ) where
+  pub piece-most : (from : ℕ) → length (pieceText room input from) ≤ room
+  unfolding pieceText
+  piece-most zero = omega (arith, head-most input)
+  piece-most (suc k) = fitted-most (countOf input) (drop k (listedWords input)) room
+
+  -- a piece that is not the last goes on behind itself, at a word that is left
+  pub piece-moves : (from : ℕ) → pieceLast room input from ≡ false → (from < pieceNext room input from) × (pieceNext room input from ≤ length (listedWords input))
+  unfolding wordsDone
+  piece-moves zero e = (omega arith, leb-false (length (listedWords input)) 0 e)
+  piece-moves (suc k) e =
+      let l : k + pieceCount room input k < length (listedWords input) = leb-false _ _ e in
+      (omega (arith, fit-some (countOf input) (listedWords input) k room (omega arith) r), omega arith)
+
+-- so a loop over pieces ends
+pub goes-on : {input : List ℕ} {from : ℕ} {out after : List ℕ} {bytes next : ℕ} {last : Bool} → ListsPiece input from out after bytes next last
+    → last ≡ false → wordBytes ≤ length out → length (listedWords input) - next < length (listedWords input) - from
+goes-on {input} {from} {out} p e r =
+    let m = piece-moves (length out) r input from (sym (p .ends) ∙ e) in
+    omega (arith, p .moved, m .0, m .1)
+
+-- ---- pieces in turn
+
+lines-append : (n : ℕ) (xs ys : List ℕ) → linesOf n (xs ++ ys) ≡ linesOf n xs ++ linesOf n ys
+lines-append n [] ys = refl
+lines-append n (x ∷ xs) ys = ap (λ (l : List ℕ). wordLines n x ++ l) (lines-append n xs ys) ∙ sym (append-assoc (wordLines n x) (linesOf n xs) (linesOf n ys))
+
+module _ (room : ℕ) (r : wordBytes ≤ room) (input : List ℕ) where
+  abbrev linesFrom : ℕ → List ℕ
+  linesFrom k = linesOf (countOf input) (drop k (listedWords input))
+
+  -- what `turns` pieces list from each word on, they list behind a piece
+  behind : (turns : ℕ) → ((k : ℕ) → length (listedWords input) ≤ k + turns → piecesFrom turns room input (suc k) ≡ linesFrom k)
+      → (from : ℕ) → length (listedWords input) ≤ from + turns
+      → piecesFrom (suc turns) room input from ≡ pieceText room input from ++ linesFrom (wordsDone room input from)
+  behind turns on from l = ap₂ (λ (x y : List ℕ). x ++ y) (fits (pieceText room input from) (piece-most room r input from)) (by (pieceLast room input from) refl)
+    where
+      by : (b : Bool) → pieceLast room input from ≡ b
+          → cond b [] (piecesFrom turns room input (pieceNext room input from)) ≡ linesFrom (wordsDone room input from)
+      by true e = sym (ap (linesOf (countOf input)) (drop-of-length-le (listedWords input) (leb-true _ _ e)))
+      by false e = on (wordsDone room input from) (omega (arith, piece-moves room r input from e .0))
+
+  -- pieces list the words from each word on
+  lines-on : (turns k : ℕ) → length (listedWords input) ≤ k + turns → piecesFrom turns room input (suc k) ≡ linesFrom k
+  unfolding pieceText wordsDone
+  lines-on zero k l = sym (ap (linesOf (countOf input)) (drop-of-length-le (listedWords input) {i = k} (omega arith)))
+  lines-on (suc turns) k l =
+      let n = countOf input in
+      let ws = drop k (listedWords input) in
+      let f = pieceCount room input k in
+      behind turns (lines-on turns) (suc k) (omega arith)
+      ∙ ap (λ (x : List ℕ). linesOf n (take f ws) ++ linesOf n x) (sym (drop-drop f k (listedWords input)))
+      ∙ sym (lines-append n (take f ws) (drop f ws))
+      ∙ ap (linesOf n) (take-append-drop f ws)
+
+  -- the first line or the refusal, then the lines of all words
+  pub pieces-whole : piecesFrom 2049 room input 0 ≡ headOf input ++ linesOf (countOf input) (listedWords input)
+  unfolding pieceText wordsDone
+  pieces-whole = behind 2048 (lines-on 2048) 0 (omega (arith, listed-most input))
