@@ -1,30 +1,20 @@
-// Listings of inputs in memory, by the functions that `sharelist` goes by: each kind of turn-down, an empty plan, and a plan with a word
+// Listings of inputs in memory, by the function that `sharelist` goes by: each kind of turn-down, an empty plan, and a plan with a word
 // of every kind for three shares. `stdout` has what document 01 says of them.
 use libc::STDOUT_FILENO;
-use listing::input::list_answer;
-use listing::input::plan_words;
-use listing::input::share_count;
-use listing::lines::list_part;
-use listing::text::first_line;
-use listing::text::refused_line;
+use listing::pieces::list_piece;
 
-// Writes an input's listing; one part is enough for all of them here.
-fn list(input: &[u8]) {
-    let answer = list_answer(input);
-    let n = share_count(input);
+// Writes one piece of an input's listing.
+fn piece(input: &[u8], i: usize) {
     let mut buffer = io::large_buffer();
-    if answer.number != 0 {
-        let count = refused_line(answer.number, &mut buffer);
-        io::write_all(STDOUT_FILENO, &buffer[..count]);
-        return;
-    }
-    let count = first_line(n, answer.words, answer.tape, &mut buffer);
-    io::write_all(STDOUT_FILENO, &buffer[..count]);
-    let mut plan = [0u32; 2048];
-    let words = plan_words(input, &mut plan);
-    let part = list_part(n, &plan[..words], 0, &mut buffer);
-    let bytes = part.bytes;
+    let piece = list_piece(input, i, &mut buffer);
+    let bytes = piece.bytes;
     io::write_all(STDOUT_FILENO, &buffer[..bytes]);
+}
+
+// Writes an input's listing: two pieces are enough for all of them here.
+fn list(input: &[u8]) {
+    piece(input, 0);
+    piece(input, 1);
 }
 
 // n = 3: a word of each kind, CONST to ADD, in order; ADD's operands are its own result.

@@ -1,7 +1,6 @@
 // The input bytes of `sharelist`: the share count, then plan words.
 ghost use mathlib.Core.Path.{_≡_};
-ghost use Prim.Native.Nat.{_+_, _*_, _≤_};
-ghost use lib.ListN.{length, drop, getD};
+ghost use Prim.Native.Nat.{_+_, _*_};
 ghost use Rattle.listing.specs.Listing.{countOf, listAnswer, planOf};
 ghost use Rattle.listing.specs.Writing.{Wrote};
 use shares::measure::measure;

@@ -1,5 +1,4 @@
 // Texts: the first line and the refusal, put together in a line of their own and then written whole or not at all.
-ghost use mathlib.Core.Path.{_≡_};
 ghost use mathlib.Core.List.{_++_};
 ghost use Prim.Native.Nat.{_+_, _≤_};
 ghost use lib.ListN.{length};
