@@ -26,7 +26,7 @@ fn jammed_product(x: u64, y: u64) -> u64
     2 * top + sticky(rest)
 }
 
-// Bits 62..0 of a product: nothing where a factor is zero or the product is far below 2^-1022.
+// Bits 62..0 of a product: zero where the product is, or is below 2^-1022.
 pub fn magnitude(a: u64, b: u64) -> u64
     ensures { λ r. ⌜ r ≡ magBits 1126 (magnitude a * magnitude b) ⌝ }
 {

@@ -59,7 +59,7 @@ firstLine n words tape =
 unfoldable pub refusedLine : ℕ → List ℕ
 refusedLine number = (114 ∷ 101 ∷ 102 ∷ 117 ∷ 115 ∷ 101 ∷ 100 ∷ 32 ∷ []) ++ (decimal number ++ (10 ∷ []))
 
--- all that it writes
+-- the share count and the plan of an input
 abbrev pub countOf : List ℕ → ℕ
 countOf [] = 0
 countOf (n ∷ rest) = n
@@ -68,6 +68,7 @@ abbrev pub planOf : List ℕ → List ℕ
 planOf [] = []
 planOf (n ∷ rest) = wordsOf rest
 
+-- all that it writes: the first line and a line for each word of the share program, or the refusal
 unfoldable pub listing : List ℕ → List ℕ
 listing input =
     cond (eqb (listAnswer input .number) 0)
