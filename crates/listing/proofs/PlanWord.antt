@@ -1,17 +1,17 @@
 -- The lines of one plan word: those of its translation, into 3,816 words at most, or none where it is turned down. Rests on masking's
 -- counts and shares' answers.
 use mathlib.Core.Path.{_≡_, refl, sym, ap, _∙_}
-use mathlib.Core.Bool.{Bool, true, false, not, _&&_}
+use mathlib.Core.Bool.{Bool, true, false, not}
 use mathlib.Core.List.{List, [], _∷_, _++_}
 use Prim.Native.Nat.{ℕ, _+_, _≤_}
 use native.Mathlib.Omega.{arith}
-use lib.Dec.{leb, ltb, eqb}
+use lib.Dec.{ltb, eqb}
 use lib.ListN.{length, take, drop, length-append}
 use lib.Seq.{take-at}
 use borrow.Author.Tests.{le-ltb, eqb-true, eqb-false}
 use Rattle.word.specs.declared.answer.Answer.{Answer}
 use Rattle.word.specs.Word.{planStep, kindOf}
-use Rattle.word.specs.Layout.{planMax}
+use Rattle.word.specs.Layout.{planMax, isShareCount}
 use Rattle.word.specs.Answers.{firstBad, refused, badAt, given, keptUnless, afterCall}
 use Rattle.masking.specs.Translation.{program}
 use Rattle.masking.specs.Foretold.{foretoldWords}
@@ -25,7 +25,7 @@ use Rattle.listing.proofs.Hex.{lines-length}
 -- a plan that is turned down has no counts
 no-words : (n : ℕ) (plan : List ℕ) → planChecked n plan (refused 0) .words ≡ 0
 unfolding planChecked
-no-words n plan = by (not (leb 2 n && leb n 8)) (ltb planMax (length plan)) (ltb (firstBad planStep plan) (length plan)) (firstBad planStep plan)
+no-words n plan = by (not (isShareCount n)) (ltb planMax (length plan)) (ltb (firstBad planStep plan) (length plan)) (firstBad planStep plan)
   where
     by : (p q r : Bool) (b : ℕ) → given p (refused 1) (given q (refused 2) (given r (badAt b) (refused 0))) .words ≡ 0
     by true q r b = refl

@@ -1,11 +1,12 @@
 -- The program `sharelist`, from document 01's section "A listed translation": what it makes of its input bytes, and the bytes that it writes.
 use mathlib.Core.Path.{_≡_}
-use mathlib.Core.Bool.{not, _&&_, _||_, cond}
+use mathlib.Core.Bool.{not, _||_, cond}
 use mathlib.Core.List.{List, [], _∷_, _++_}
 use Prim.Native.Nat.{ℕ, zero, suc, _+_, _*_, _/_, _%_, _^_}
-use lib.Dec.{leb, ltb, eqb}
+use lib.Dec.{ltb, eqb}
 use lib.ListN.{length}
 use Rattle.word.specs.declared.answer.Answer.{Answer}
+use Rattle.word.specs.Layout.{isShareCount}
 use Rattle.word.specs.Answers.{refused, given}
 use Rattle.masking.specs.Translation.{program}
 use Rattle.shares.specs.Calls.{measureAnswer}
@@ -23,7 +24,7 @@ wordsOf (a ∷ b ∷ c ∷ d ∷ rest) = (a + 256 * b + 65536 * c + 16777216 * d
 unfoldable pub listAnswer : List ℕ → Answer
 listAnswer [] = refused 1
 listAnswer (n ∷ rest) =
-    given (not (leb 2 n && leb n 8)) (refused 1)
+    given (not (isShareCount n)) (refused 1)
     (given (ltb 8192 (length rest) || not (eqb (length rest % 4) 0)) (refused 2)
     (measureAnswer n (wordsOf rest)))
 

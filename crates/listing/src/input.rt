@@ -5,6 +5,7 @@ ghost use Rattle.listing.specs.Listing.{countOf, listAnswer, planOf};
 ghost use Rattle.listing.specs.Writing.{Wrote};
 use shares::measure::measure;
 use word::answer::Answer;
+use word::share_count::is_share_count;
 use word::step_word::StepWord;
 
 // A word of four bytes, the least first.
@@ -52,10 +53,7 @@ pub fn list_answer(input: &[u8]) -> Answer
         return Answer::refused(1);
     }
     let n = input[0] as usize;
-    if n < 2 {
-        return Answer::refused(1);
-    }
-    if 8 < n {
+    if !is_share_count(n) {
         return Answer::refused(1);
     }
     let bytes = input.len() - 1;

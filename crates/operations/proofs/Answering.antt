@@ -4,9 +4,11 @@ use mathlib.Core.Bool.{Bool, true, false, not, _&&_}
 use mathlib.Core.List.{List}
 use Prim.Native.Nat.{ℕ, _≤_}
 use native.Mathlib.Omega.{arith}
-use lib.Dec.{leb, ltb, eqb}
-use borrow.Author.Tests.{ltb-false, leb-true, eqb-true}
+use lib.Dec.{ltb, eqb}
+use borrow.Author.Tests.{ltb-false, eqb-true, not-false}
 use Rattle.word.specs.declared.answer.Answer.{Answer}
+use Rattle.word.specs.Layout.{isShareCount}
+use Rattle.word.proofs.Small.{share-range}
 use Rattle.word.specs.Answers.{done, refused, given}
 use Rattle.masking.specs.Foretold.{foretoldTape}
 use Rattle.operations.specs.Shares.{operationAnswer}
@@ -32,15 +34,15 @@ pub record Ready (plan : List ℕ) (n other result work tape : ℕ) : Type 0 whe
 pub ready : (plan : List ℕ) (n other result work tape : ℕ) (a : Answer) → a ≡ operationAnswer plan n other result work tape → a .number ≡ 0 → Ready plan n other result work tape
 unfolding operationAnswer
 ready plan n other result work tape a e z =
-    let p₁ = passed (not (leb 2 n && leb n 8)) (refused 1) _ (λ h. omega arith) (sym (ap (λ (x : Answer). x .number) e) ∙ z) in
+    let p₁ = passed (not (isShareCount n)) (refused 1) _ (λ h. omega arith) (sym (ap (λ (x : Answer). x .number) e) ∙ z) in
     let p₄ = passed (not (eqb other n && (eqb result n && eqb work 512))) (refused 4) _ (λ h. omega arith) (p₁ .1) in
     let p₆ = passed (ltb tape (foretoldTape n plan)) (refused 6) _ (λ h. omega arith) (p₄ .1) in
-    let s = both (leb 2 n) (leb n 8) (p₁ .0) in
+    let s = share-range n (not-false (isShareCount n) (p₁ .0)) in
     let l = both (eqb other n) (eqb result n && eqb work 512) (p₄ .0) in
     let m = both (eqb result n) (eqb work 512) (ap not (l .1)) in
     record {
-      least = leb-true 2 n (s .0);
-      most = leb-true n 8 (s .1);
+      least = s .0;
+      most = s .1;
       others = eqb-true other n (l .0);
       results = eqb-true result n (m .0);
       works = eqb-true work 512 (m .1);

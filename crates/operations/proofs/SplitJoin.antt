@@ -1,18 +1,19 @@
 -- Split and join: there and back, and what their loops keep. Rests on the ring of words and lib.Seq's `paste`.
-use mathlib.Core.Path.{_≡_, refl, sym, ap, ap₂, _∙_, subst}
-use mathlib.Core.Bool.{Bool, true, false, not, _&&_, cond}
+use mathlib.Core.Path.{_≡_, refl, sym, ap, ap₂, _∙_}
+use mathlib.Core.Bool.{Bool, true, false, not}
 use mathlib.Core.List.{List, [], _∷_, _++_, append-nil}
 use Prim.Native.Nat.{ℕ, suc, _+_, _-_, _≤_, _<_}
 use native.Mathlib.Numerals.{add-one}
 use native.Mathlib.Omega.{arith}
-use lib.Dec.{T, leb, ltb, leb→le}
+use lib.Dec.{ltb}
 use lib.ListN.{length, getD, take, set, drop-of-length-le}
 use lib.Seq.{length-take-le, take-suc, paste, paste-zero, paste-suc}
-use borrow.Author.Tests.{ltb-false}
+use borrow.Author.Tests.{ltb-false, not-false}
 use Rattle.bits.specs.Ops.{xorW}
 use Rattle.bits.proofs.Xor.{xor-assoc, xor-zero, xor-zero-l, xor-cancel-r}
+use Rattle.word.specs.Layout.{isShareCount}
 use Rattle.word.specs.Answers.{done, refused, given}
-use Rattle.masking.proofs.emitted.Tests.{both}
+use Rattle.word.proofs.Small.{share-range}
 use Rattle.operations.specs.Splitting.{xorAll, splitOf, splitAnswer, joinAnswer}
 use Rattle.operations.specs.Masked.{RoundTrip, CallsRoundTrip}
 
@@ -55,20 +56,17 @@ all-masked word tape (x ∷ d) i out first m e =
     (ap (λ (r : List ℕ). take i tape ++ r) (drop-of-length-le (x ∷ d) {i = 1 + i} (omega arith)) ∙ append-nil (take i tape))
 
 -- ---- answers
-pub counted : (n : ℕ) → (leb 2 n && leb n 8) ≡ true → 2 ≤ n
-counted n p = leb→le 2 n (both (leb 2 n) (leb n 8) (subst T (sym p) tt) .0)
-
 -- what a split that is done has shown of lengths
 pub split-ready : (n tape : ℕ) → splitAnswer n tape .number ≡ 0 → (0 < n) × (n ≤ tape + 1)
 unfolding splitAnswer
-split-ready n tape = by (leb 2 n && leb n 8) (ltb tape (n - 1)) refl refl
+split-ready n tape = by (isShareCount n) (ltb tape (n - 1)) refl refl
   where
-    by : (counted short : Bool) → (leb 2 n && leb n 8) ≡ counted → ltb tape (n - 1) ≡ short
+    by : (counted short : Bool) → (isShareCount n) ≡ counted → ltb tape (n - 1) ≡ short
         → given (not counted) (refused 1) (given short (refused 6) (done 0 0)) .number ≡ 0 → (0 < n) × (n ≤ tape + 1)
     by false short p q e = absurd (omega arith)
     by true true p q e = absurd (omega arith)
     by true false p q e =
-        let m = counted n p in
+        let m = share-range n p .0 in
         let l = ltb-false tape (n - 1) q in
         (omega arith, omega arith)
 
@@ -85,11 +83,7 @@ pub calls-round-trip : CallsRoundTrip
 unfolding splitAnswer joinAnswer
 calls-round-trip word tape out e =
     let n = length out in
-    let d = split-done (not (leb 2 n && leb n 8)) (ltb (length tape) (n - 1)) e in
-    let r = both (leb 2 n) (leb n 8) (not-not-T (leb 2 n && leb n 8) (d .0)) in
-    let size : length (splitOf word (take (n - 1) tape)) ≡ n = split-size word tape n (leb→le 2 n (r .0)) (ltb-false (length tape) (n - 1) (d .1)) in
+    let d = split-done (not (isShareCount n)) (ltb (length tape) (n - 1)) e in
+    let r = share-range n (not-false (isShareCount n) (d .0)) in
+    let size : length (splitOf word (take (n - 1) tape)) ≡ n = split-size word tape n (r .0) (ltb-false (length tape) (n - 1) (d .1)) in
     rw (d .0, d .1, size, d .0) (round-trip word (take (n - 1) tape))
-  where
-    not-not-T : (b : Bool) → not b ≡ false → T b
-    not-not-T true h = tt
-    not-not-T false h = absurd (omega (arith, ap (λ (b : Bool). cond {A = ℕ} b 1 0) h))

@@ -4,10 +4,10 @@
 use mathlib.Core.Bool.{not, _&&_}
 use mathlib.Core.List.{List, [], _∷_, map}
 use Prim.Native.Nat.{ℕ, suc}
-use lib.Dec.{leb, ltb, eqb}
+use lib.Dec.{ltb, eqb}
 use lib.ListN.{length, getD, set, replicate}
 use Rattle.word.specs.declared.answer.Answer.{Answer}
-use Rattle.word.specs.Layout.{cell}
+use Rattle.word.specs.Layout.{isShareCount, cell}
 use Rattle.word.specs.Answers.{done, refused, given, afterCall}
 use Rattle.masking.specs.Translation.{shares, program}
 use Rattle.masking.specs.Foretold.{foretoldTape}
@@ -17,7 +17,7 @@ use Rattle.masking.specs.Runs.{runAnswer, runCells}
 -- for `other`
 unfoldable pub operationAnswer : List ℕ → ℕ → ℕ → ℕ → ℕ → ℕ → Answer
 operationAnswer plan n other result work tape =
-    given (not (leb 2 n && leb n 8)) (refused 1)
+    given (not (isShareCount n)) (refused 1)
     (given (not (eqb other n && (eqb result n && eqb work 512))) (refused 4)
     (given (ltb tape (foretoldTape n plan)) (refused 6)
     (done 0 (foretoldTape n plan))))

@@ -1,12 +1,13 @@
 -- Split and join, from document 01's section "Calls and their turn-downs": "Split (1 by the output's length, 6 below n − 1 tape words): shares
 -- 1 and up are the tape's words in order. Join (1): the word, 0 when turned down." They name no counts.
-use mathlib.Core.Bool.{not, _&&_, cond}
+use mathlib.Core.Bool.{not, cond}
 use mathlib.Core.List.{List, [], _∷_}
 use Prim.Native.Nat.{ℕ, _-_}
-use lib.Dec.{leb, ltb, eqb}
+use lib.Dec.{ltb, eqb}
 use lib.ListN.{length, take}
 use Rattle.bits.specs.Ops.{xorW}
 use Rattle.word.specs.declared.answer.Answer.{Answer}
+use Rattle.word.specs.Layout.{isShareCount}
 use Rattle.word.specs.Answers.{done, refused, given, afterCall}
 
 -- the exclusive-or of words
@@ -19,13 +20,13 @@ abbrev pub splitOf : ℕ → List ℕ → List ℕ
 splitOf word masks = xorW word (xorAll masks) ∷ masks
 
 unfoldable pub splitAnswer : ℕ → ℕ → Answer
-splitAnswer n tape = given (not (leb 2 n && leb n 8)) (refused 1) (given (ltb tape (n - 1)) (refused 6) (done 0 0))
+splitAnswer n tape = given (not (isShareCount n)) (refused 1) (given (ltb tape (n - 1)) (refused 6) (done 0 0))
 
 abbrev pub splitOut : ℕ → List ℕ → List ℕ → List ℕ
 splitOut word tape out = afterCall (splitAnswer (length out) (length tape)) (splitOf word (take (length out - 1) tape)) out
 
 unfoldable pub joinAnswer : ℕ → Answer
-joinAnswer n = given (not (leb 2 n && leb n 8)) (refused 1) (done 0 0)
+joinAnswer n = given (not (isShareCount n)) (refused 1) (done 0 0)
 
 -- the word joined, 0 when turned down
 abbrev pub joinedWord : List ℕ → ℕ

@@ -12,6 +12,7 @@ ghost use Rattle.operations.specs.Calls.{floorAnswer, floorResult, floor
 ghost use Rattle.operations.specs.Shares.{callAnswer, finished, operationAnswer, placedIn, resultAfter, workAfter};
 use crate::gadgets::plan_word::word_done;
 use word::answer::Answer;
+use word::share_count::is_share_count;
 
 // Tape words of a plan word for each pair of shares: 2 for AND, 24 for ADD.
 fn word_per_pair(w: u32) -> usize
@@ -58,10 +59,7 @@ fn operation_answer(
     requires { ⌜ length (now plan) ≤ 2048 ⌝ }
     ensures { λ r. ⌜ r ≡ operationAnswer (now (plan .entry)) n other result work tape ⌝ }
 {
-    if n < 2 {
-        return Answer::refused(1);
-    }
-    if 8 < n {
+    if !is_share_count(n) {
         return Answer::refused(1);
     }
     if other != n {

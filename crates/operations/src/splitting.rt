@@ -1,24 +1,16 @@
 // Split and join: a word to its shares and back.
 ghost use mathlib.Core.Path.{_≡_};
-ghost use mathlib.Core.Bool.{_&&_};
-ghost use lib.Dec.{leb};
 ghost use Prim.Native.Nat.{_-_, _+_, _≤_, _<_};
 ghost use lib.ListN.{length, take};
 ghost use Rattle.operations.specs.Splitting.{xorAll, splitOf, splitAnswer, splitOut, joinAnswer, joinedWord};
 use word::answer::Answer;
-
-// Whether there can be n shares.
-fn share_count(n: usize) -> bool
-    ensures { λ r. ⌜ r ≡ (leb 2 n && leb n 8) ⌝ }
-{
-    2 <= n && n <= 8
-}
+use word::share_count::is_share_count;
 
 // The answer to n shares and a number of tape words: the turn-downs in number order.
 fn split_answer(n: usize, tape: usize) -> Answer
     ensures { λ r. ⌜ r ≡ splitAnswer n tape ⌝ }
 {
-    if !share_count(n) {
+    if !is_share_count(n) {
         return Answer::refused(1);
     }
     if tape < n - 1 {
@@ -65,7 +57,7 @@ pub struct Joined {
 fn join_answer(n: usize) -> Answer
     ensures { λ r. ⌜ r ≡ joinAnswer n ⌝ }
 {
-    if !share_count(n) {
+    if !is_share_count(n) {
         return Answer::refused(1);
     }
     Answer::done(0, 0)

@@ -1,20 +1,21 @@
 -- The sums over a plan's words (Measure), and what the answers say of the plan. Assumes nothing.
 use mathlib.Core.Path.{_≡_, refl, sym, ap, _∙_}
-use mathlib.Core.Bool.{Bool, true, false, cond, not, _&&_}
+use mathlib.Core.Bool.{Bool, true, false, cond, not}
 use mathlib.Core.List.{List, _∷_}
 use Prim.Native.Nat.{ℕ, _+_, _-_, _*_, _/_, _≤_, _<_}
 use native.Mathlib.Nat.{mul-le-mul-left}
 use native.Mathlib.Numerals.{add-one}
 use native.Mathlib.Omega.{arith}
-use lib.Dec.{eqb, leb, ltb}
+use lib.Dec.{eqb, ltb}
 use lib.ListN.{length, drop, getD}
 use lib.Seq.{drop-cons}
-use borrow.Author.Tests.{ltb-false, leb-true}
+use borrow.Author.Tests.{ltb-false, not-false}
 use Rattle.word.specs.declared.answer.Answer.{Answer}
 use Rattle.word.specs.Word.{planStep, kindOf}
-use Rattle.word.specs.Layout.{lengthOf, tapeOf, planMax}
+use Rattle.word.specs.Layout.{lengthOf, tapeOf, planMax, isShareCount}
 use Rattle.word.specs.Answers.{firstBad, refused, badAt, given}
 use Rattle.word.proofs.Checking.{first-bad}
+use Rattle.word.proofs.Small.{share-range}
 use Rattle.masking.specs.Foretold.{Accepted, foretoldWords, foretoldTape}
 use Rattle.shares.specs.Calls.{planChecked, measured, translateAnswer}
 
@@ -80,29 +81,19 @@ tested-down false true r b x y z h = refl
 tested-down false false true b x y z h = refl
 tested-down false false false b x y z h = absurd (h z)
 
-not-false : (p : Bool) → not p ≡ false → p ≡ true
-not-false true e = refl
-not-false false e = sym e
-
-both-true : (p q : Bool) → (p && q) ≡ true → (p ≡ true) × (q ≡ true)
-both-true true q e = (refl, e)
-both-true false q e = let z : _≡_ {A = ℕ} 0 1 = cc in absurd (omega arith)
-
-pub in-range : (n : ℕ) → not (leb 2 n && leb n 8) ≡ false → (2 ≤ n) × (n ≤ 8)
-in-range n e =
-    let b = both-true (leb 2 n) (leb n 8) (not-false (leb 2 n && leb n 8) e) in
-    (leb-true 2 n (b .0), leb-true n 8 (b .1))
+pub in-range : (n : ℕ) → not (isShareCount n) ≡ false → (2 ≤ n) × (n ≤ 8)
+in-range n e = share-range n (not-false (isShareCount n) e)
 
 module _ (n : ℕ) (plan : List ℕ) (x : Answer) where
   -- a plan that is turned down is so whatever comes next
   pub turned-down : (y : Answer) → x .number ≡ 0 → (planChecked n plan x .number ≡ 0 → ⊥) → planChecked n plan x ≡ planChecked n plan y
   unfolding planChecked
-  turned-down y = tested-down (not (leb 2 n && leb n 8)) (ltb planMax (length plan)) (ltb (firstBad planStep plan) (length plan)) (firstBad planStep plan) x y
+  turned-down y = tested-down (not (isShareCount n)) (ltb planMax (length plan)) (ltb (firstBad planStep plan) (length plan)) (firstBad planStep plan) x y
 
   module _ (h : planChecked n plan x .number ≡ 0) where
-    passes : (not (leb 2 n && leb n 8) ≡ false) × (ltb planMax (length plan) ≡ false) × (ltb (firstBad planStep plan) (length plan) ≡ false)
+    passes : (not (isShareCount n) ≡ false) × (ltb planMax (length plan) ≡ false) × (ltb (firstBad planStep plan) (length plan) ≡ false)
     unfolding planChecked
-    passes = tested-done (not (leb 2 n && leb n 8)) (ltb planMax (length plan)) (ltb (firstBad planStep plan) (length plan)) (firstBad planStep plan) x h
+    passes = tested-done (not (isShareCount n)) (ltb planMax (length plan)) (ltb (firstBad planStep plan) (length plan)) (firstBad planStep plan) x h
 
     -- one that is not is accepted, and what comes next is the answer
     pub next-answer : (y : Answer) → planChecked n plan y ≡ y

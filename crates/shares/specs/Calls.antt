@@ -1,12 +1,12 @@
 -- Measure and Translate, from document 01's section "Calls and their turn-downs".
-use mathlib.Core.Bool.{not, _&&_}
+use mathlib.Core.Bool.{not}
 use mathlib.Core.List.{List, _++_}
 use Prim.Native.Nat.{ℕ}
-use lib.Dec.{leb, ltb}
+use lib.Dec.{ltb}
 use lib.ListN.{length, drop}
 use Rattle.word.specs.declared.answer.Answer.{Answer}
 use Rattle.word.specs.Word.{planStep}
-use Rattle.word.specs.Layout.{planMax}
+use Rattle.word.specs.Layout.{planMax, isShareCount}
 use Rattle.word.specs.Answers.{firstBad, done, refused, badAt, given, afterCall}
 use Rattle.masking.specs.Translation.{program}
 use Rattle.masking.specs.Runs.{State}
@@ -15,7 +15,7 @@ use Rattle.masking.specs.Foretold.{foretoldWords, foretoldTape}
 -- 1 "share count not 2..8", 2 "plan .. too long", 3 "a bad word"; else what comes next
 unfoldable pub planChecked : ℕ → List ℕ → Answer → Answer
 planChecked n plan next =
-    given (not (leb 2 n && leb n 8)) (refused 1)
+    given (not (isShareCount n)) (refused 1)
     (given (ltb planMax (length plan)) (refused 2)
     (given (ltb (firstBad planStep plan) (length plan)) (badAt (firstBad planStep plan))
     next))

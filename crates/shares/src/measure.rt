@@ -1,21 +1,14 @@
 // Measure: the share words and tape words of a plan.
 ghost use mathlib.Core.Path.{_≡_};
-ghost use mathlib.Core.Bool.{_&&_};
 ghost use Prim.Native.Nat.{_≤_};
-ghost use lib.Dec.{leb};
 ghost use lib.ListN.{length};
 ghost use Rattle.word.specs.Layout.{lengthOf, tapeOf};
 ghost use Rattle.word.specs.Word.{kindOf};
 ghost use Rattle.shares.specs.Calls.{measureAnswer, measured};
 use word::answer::Answer;
 use word::check::plan_first_bad;
+use word::share_count::is_share_count;
 use word::step_word::StepWord;
-
-fn share_count(n: usize) -> bool
-    ensures { λ r. ⌜ r ≡ (leb 2 n && leb n 8) ⌝ }
-{
-    2 <= n && n <= 8
-}
 
 // Share words that a plan word gives for n shares, by its kind.
 pub(crate) fn share_words(w: u32, n: u8) -> usize
@@ -51,7 +44,7 @@ fn counted(n: u8, plan: &[u32]) -> Answer
 pub fn measure(n: usize, plan: &[u32]) -> Answer
     ensures { λ r. ⌜ r ≡ measureAnswer n (now (plan .entry)) ⌝ }
 {
-    if !share_count(n) {
+    if !is_share_count(n) {
         return Answer::refused(1);
     }
     if StepWord::PLAN_MAX < plan.len() {

@@ -1,8 +1,12 @@
--- Bounds on the counts per kind: a share count below 256 keeps squares and pairs small.
+-- Bounds: of a share count, and on the counts per kind, where a share count below 256 keeps squares and pairs small.
 use Prim.Native.Nat.{ℕ, zero, suc, _*_, _-_, _≤_, _<_}
 use native.Mathlib.Nat.{mul-le-mul-left, mul-one, le-trans, le-of-eq}
-use mathlib.Core.Path.{sym}
+use mathlib.Core.Path.{_≡_, refl, sym}
+use mathlib.Core.Bool.{Bool, true, false, _&&_}
 use native.Mathlib.Omega.{arith}
+use lib.Dec.{leb}
+use borrow.Author.Tests.{leb-true}
+use Rattle.word.specs.Layout.{isShareCount}
 
 pub square-lt : (n : ℕ) → n < 256 → n * n < 65536
 square-lt n h =
@@ -18,3 +22,13 @@ pub pairs-lt : (n : ℕ) → n < 256 → n * (n - 1) < 65536
 pairs-lt n h =
     let a : n * (n - 1) ≤ n * 255 = mul-le-mul-left n (omega arith) in
     omega arith
+
+-- a share count lies in 2..8
+pub share-range : (n : ℕ) → isShareCount n ≡ true → (2 ≤ n) × (n ≤ 8)
+share-range n e =
+    let b = both (leb 2 n) (leb n 8) e in
+    (leb-true 2 n (b .0), leb-true n 8 (b .1))
+  where
+    both : (p q : Bool) → (p && q) ≡ true → (p ≡ true) × (q ≡ true)
+    both true q h = (refl, h)
+    both false q h = let z : _≡_ {A = ℕ} 0 1 = cc in absurd (omega arith)

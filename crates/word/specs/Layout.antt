@@ -1,8 +1,8 @@
 -- Places and lengths, from document 01's sections "Step words" and "Translation for n shares": limits, share and scratch cells, and
 -- the words and tape words that a plan word of each kind translates to.
-use mathlib.Core.Bool.{cond}
+use mathlib.Core.Bool.{Bool, cond, _&&_}
 use Prim.Native.Nat.{ℕ, _+_, _-_, _*_, _/_}
-use lib.Dec.{eqb}
+use lib.Dec.{eqb, leb}
 
 -- "A plan has 0..2,048 words"; "A share program has 0..7,815,168 words"
 abbrev pub planMax : ℕ
@@ -10,6 +10,10 @@ planMax = 2048
 
 abbrev pub programMax : ℕ
 programMax = 7815168
+
+-- whether n shares can be: number 1 is "share count not 2..8"
+abbrev pub isShareCount : ℕ → Bool
+isShareCount n = leb 2 n && leb n 8
 
 -- "Share i of register r is cell 32i + r."
 abbrev pub cell : ℕ → ℕ → ℕ

@@ -4,6 +4,7 @@ pub mod answer;
 pub mod check;
 pub mod program_check;
 pub mod reader;
+pub mod share_count;
 pub mod step;
 pub mod step_rule;
 pub mod step_word;

@@ -1,71 +1,72 @@
 -- `operations::operations::operation_answer` meets its contract.
-use Prim.Native.Nat.{_-_}
+use mathlib.Core.Path.{sym, _∙_}
+use native.Mathlib.Omega.{arith}
 use borrow.Author.Needs.{needs}
-use borrow.Author.Tests.{lt-ltb, le-ltb, le-leb, lt-leb, eq-eqb, ne-eqb}
+use borrow.Author.Tests.{lt-ltb, le-ltb, eq-eqb, ne-eqb, not-false}
+use Rattle.word.proofs.Small.{share-range}
 use Rattle.operations.specs.Shares.{operationAnswer}
 use Rattle.operations.proofs.operations.operation_answer.Statement.{statement}
 use Rattle.operations.proofs.operations.operation_answer.Tie as tie
+
+is-share-count-requires : tie.Need-is-share-count-requires
+is-share-count-requires c κs = search needs
 
 refused-requires : tie.Need-refused-requires
 refused-requires c κs = search needs
 
 returns : tie.Need-returns
 unfolding operationAnswer
-returns c = rw (lt-leb 2 _ (c .before .if1 .taken)) (c .refused .ensures)
+returns c = rw (← (c .before .before .is-share-count .ensures), c .before .if1 .taken) (c .refused .ensures)
 
 refused-requires-2 : tie.Need-refused-requires-2
 refused-requires-2 c κs = search needs
 
 returns-2 : tie.Need-returns-2
 unfolding operationAnswer
-returns-2 c = rw (le-leb 2 _ (c .before .before .if1 .left), lt-leb _ 8 (c .before .if2 .taken)) (c .refused2 .ensures)
+returns-2 c = rw (← (c .before .before .before .is-share-count .ensures), c .before .before .if1 .left, ne-eqb _ _ (c .before .if2 .taken)) (c .refused2 .ensures)
 
 refused-requires-3 : tie.Need-refused-requires-3
 refused-requires-3 c κs = search needs
 
 returns-3 : tie.Need-returns-3
 unfolding operationAnswer
-returns-3 c = rw (le-leb 2 _ (c .before .before .before .if1 .left), le-leb _ 8 (c .before .before .if2 .left), ne-eqb _ _ (c .before .if3 .taken)) (c .refused3 .ensures)
+returns-3 c = rw (← (c .before .before .before .before .is-share-count .ensures), c .before .before .before .if1 .left, eq-eqb _ _ (c .before .before .if2 .left), ne-eqb _ _ (c .before .if3 .taken)) (c .refused3 .ensures)
 
 refused-requires-4 : tie.Need-refused-requires-4
 refused-requires-4 c κs = search needs
 
 returns-4 : tie.Need-returns-4
 unfolding operationAnswer
-returns-4 c = rw (le-leb 2 _ (c .before .before .before .before .if1 .left), le-leb _ 8 (c .before .before .before .if2 .left), eq-eqb _ _ (c .before .before .if3 .left), ne-eqb _ _ (c .before .if4 .taken)) (c .refused4 .ensures)
+returns-4 c = rw (← (c .before .before .before .before .before .is-share-count .ensures), c .before .before .before .before .if1 .left, eq-eqb _ _ (c .before .before .before .if2 .left), eq-eqb _ _ (c .before .before .if3 .left), ne-eqb _ _ (c .before .if4 .taken)) (c .refused4 .ensures)
+
+tape-words-requires : tie.Need-tape-words-requires
+tape-words-requires c κs =
+    let r = share-range (c .before .before .before .before .before .before .args .n) (sym (c .before .before .before .before .is-share-count .ensures) ∙ not-false _ (c .before .before .before .if1 .left)) in
+    (c .before .before .before .before .before .before .pre, omega (arith, r .0), r .1)
 
 refused-requires-5 : tie.Need-refused-requires-5
 refused-requires-5 c κs = search needs
 
 returns-5 : tie.Need-returns-5
 unfolding operationAnswer
-returns-5 c = rw (le-leb 2 _ (c .before .before .before .before .before .if1 .left), le-leb _ 8 (c .before .before .before .before .if2 .left), eq-eqb _ _ (c .before .before .before .if3 .left), eq-eqb _ _ (c .before .before .if4 .left), ne-eqb _ _ (c .before .if5 .taken)) (c .refused5 .ensures)
+returns-5 c =
+    let f = c .before .before .tape-words .ensures in
+    rw (← (c .before .before .before .before .before .before .before .is-share-count .ensures), c .before .before .before .before .before .before .if1 .left, eq-eqb _ _ (c .before .before .before .before .before .if2 .left), eq-eqb _ _ (c .before .before .before .before .if3 .left), eq-eqb _ _ (c .before .before .before .if4 .left), lt-ltb _ _ (rw f at (c .before .if5 .taken))) (c .refused5 .ensures)
 
-tape-words-requires : tie.Need-tape-words-requires
-tape-words-requires c κs = search needs
-
-refused-requires-6 : tie.Need-refused-requires-6
-refused-requires-6 c κs = search needs
+done-requires : tie.Need-done-requires
+done-requires c κs = search needs
 
 returns-6 : tie.Need-returns-6
 unfolding operationAnswer
 returns-6 c =
     let f = c .before .before .tape-words .ensures in
-    rw (le-leb 2 _ (c .before .before .before .before .before .before .before .if1 .left), le-leb _ 8 (c .before .before .before .before .before .before .if2 .left), eq-eqb _ _ (c .before .before .before .before .before .if3 .left), eq-eqb _ _ (c .before .before .before .before .if4 .left), eq-eqb _ _ (c .before .before .before .if5 .left), lt-ltb _ _ (rw f at (c .before .if6 .taken))) (c .refused6 .ensures)
-
-done-requires : tie.Need-done-requires
-done-requires c κs = search needs
-
-returns-7 : tie.Need-returns-7
-unfolding operationAnswer
-returns-7 c =
-    let f = c .before .before .tape-words .ensures in
-    rw (le-leb 2 _ (c .before .before .before .before .before .before .before .if1 .left), le-leb _ 8 (c .before .before .before .before .before .before .if2 .left), eq-eqb _ _ (c .before .before .before .before .before .if3 .left), eq-eqb _ _ (c .before .before .before .before .if4 .left), eq-eqb _ _ (c .before .before .before .if5 .left), le-ltb _ _ (rw f at (c .before .if6 .left))) (rw f at (c .done .ensures))
+    rw (← (c .before .before .before .before .before .before .before .is-share-count .ensures), c .before .before .before .before .before .before .if1 .left, eq-eqb _ _ (c .before .before .before .before .before .if2 .left), eq-eqb _ _ (c .before .before .before .before .if3 .left), eq-eqb _ _ (c .before .before .before .if4 .left), le-ltb _ _ (rw f at (c .before .if5 .left))) (rw f at (c .done .ensures))
 
 pub operation-answer-spec : {M : Type 1} → statement M
 operation-answer-spec =
     tie.close
     (tie.spec
+    is-share-count-requires
     refused-requires
     returns
     refused-requires-2
@@ -74,10 +75,8 @@ operation-answer-spec =
     returns-3
     refused-requires-4
     returns-4
+    tape-words-requires
     refused-requires-5
     returns-5
-    tape-words-requires
-    refused-requires-6
-    returns-6
     done-requires
-    returns-7)
+    returns-6)

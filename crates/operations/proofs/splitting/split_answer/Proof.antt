@@ -2,46 +2,46 @@
 use mathlib.Core.Path.{sym, _∙_}
 use native.Mathlib.Omega.{arith}
 use borrow.Author.Tests.{lt-ltb, le-ltb, not-false}
-use Rattle.operations.proofs.SplitJoin.{counted}
+use Rattle.word.proofs.Small.{share-range}
 use Rattle.operations.specs.Splitting.{splitAnswer}
 use borrow.Author.Needs.{needs}
 use Rattle.operations.proofs.splitting.split_answer.Statement.{statement}
 use Rattle.operations.proofs.splitting.split_answer.Tie as tie
 
-share-count-requires : tie.Need-share-count-requires
-share-count-requires c κs = search needs
+is-share-count-requires : tie.Need-is-share-count-requires
+is-share-count-requires c κs = search needs
 
 refused-requires : tie.Need-refused-requires
 refused-requires c κs = search needs
 
 returns : tie.Need-returns
 unfolding splitAnswer
-returns c = rw (← (c .before .before .share-count .ensures), c .before .if1 .taken) (c .refused .ensures)
+returns c = rw (← (c .before .before .is-share-count .ensures), c .before .if1 .taken) (c .refused .ensures)
 
 sub-if2 : tie.Need-sub-if2
 sub-if2 c =
     let n = c .before .before .args .n in
-    omega (arith, counted n (sym (c .before .share-count .ensures) ∙ not-false (c .before .share-count .result) (c .if1 .left)))
+    omega (arith, share-range n (sym (c .before .is-share-count .ensures) ∙ not-false (c .before .is-share-count .result) (c .if1 .left)) .0)
 
 refused-requires-2 : tie.Need-refused-requires-2
 refused-requires-2 c κs = search needs
 
 returns-2 : tie.Need-returns-2
 unfolding splitAnswer
-returns-2 c = rw (← (c .before .before .before .share-count .ensures), c .before .before .if1 .left, lt-ltb _ _ (c .before .if2 .taken)) (c .refused2 .ensures)
+returns-2 c = rw (← (c .before .before .before .is-share-count .ensures), c .before .before .if1 .left, lt-ltb _ _ (c .before .if2 .taken)) (c .refused2 .ensures)
 
 done-requires : tie.Need-done-requires
 done-requires c κs = search needs
 
 returns-3 : tie.Need-returns-3
 unfolding splitAnswer
-returns-3 c = rw (← (c .before .before .before .share-count .ensures), c .before .before .if1 .left, le-ltb _ _ (c .before .if2 .left)) (c .done .ensures)
+returns-3 c = rw (← (c .before .before .before .is-share-count .ensures), c .before .before .if1 .left, le-ltb _ _ (c .before .if2 .left)) (c .done .ensures)
 
 pub split-answer-spec : {M : Type 1} → statement M
 split-answer-spec =
     tie.close
     (tie.spec
-    share-count-requires
+    is-share-count-requires
     refused-requires
     returns
     sub-if2
