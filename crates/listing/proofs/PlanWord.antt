@@ -17,7 +17,8 @@ use Rattle.masking.specs.Translation.{program}
 use Rattle.masking.specs.Foretold.{foretoldWords}
 use Rattle.masking.proofs.emitted.Counts.{plan-counts}
 use Rattle.shares.specs.Calls.{planChecked, measured, measureAnswer, translateAnswer, translateOut}
-use Rattle.shares.proofs.Counted.{length-le, accepted, next-answer, turned-down}
+use Rattle.word.proofs.Small.{length-le}
+use Rattle.shares.proofs.Counted.{accepted, next-answer, turned-down}
 use Rattle.listing.specs.Listing.{hexLines}
 use Rattle.listing.specs.Writing.{wordLines, wordBytes}
 use Rattle.listing.proofs.Hex.{lines-length}

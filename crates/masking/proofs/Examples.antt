@@ -21,7 +21,7 @@ inverted-once : translated 2 (Not 1 0) ≡ Not 1 0 ∷ Shl 33 32 0 ∷ []
 unfolding translated shareCell
 inverted-once = refl
 
--- AND 1 1 1: y, refreshed; z, with the products of both pairs of shares; then d
+-- AND 1 1 1: y, refreshed; z, with both cross products of the pair; then d
 and-alike : translated 2 (And 1 1 1)
     ≡ Shl 256 1 0 ∷ Shl 257 33 0
     ∷ Rand 272 ∷ Xor 256 256 272 ∷ Xor 257 257 272

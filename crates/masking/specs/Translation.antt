@@ -114,18 +114,16 @@ generated k = Shl rT rG k ∷ And rT rP rT ∷ Xor rG rG rT ∷ []
 abbrev pub passed : ℕ → List Step
 passed k = Shl rT rP k ∷ And rP rP rT ∷ []
 
--- "ADD: .. H = a XOR b; G = a AND b; P = H by SHL 0. For k = 1, 2, 4, 8, 16, 32: .. and, except after 32, .. Then T = G SHL 1;
--- d = H XOR T."
+-- "For k = 1, 2, 4, 8, 16, 32: .. and, except after 32, .."
+abbrev pub round : ℕ → List Step
+round k = generated k ++ passed k
+
+abbrev pub rounds : List Step
+rounds = round 1 ++ (round 2 ++ (round 4 ++ (round 8 ++ (round 16 ++ generated 32))))
+
+-- "ADD: .. H = a XOR b; G = a AND b; P = H by SHL 0.", the rounds, "Then T = G SHL 1; d = H XOR T."
 unfoldable pub adding : ℕ → ℕ → ℕ → List Step
-adding d a b =
-    (Xor rH a b ∷ And rG a b ∷ Shl rP rH 0 ∷ [])
-    ++ (generated 1 ++ (passed 1
-    ++ (generated 2 ++ (passed 2
-    ++ (generated 4 ++ (passed 4
-    ++ (generated 8 ++ (passed 8
-    ++ (generated 16 ++ (passed 16
-    ++ (generated 32
-    ++ (Shl rT rG 1 ∷ Xor d rH rT ∷ []))))))))))))
+adding d a b = (Xor rH a b ∷ And rG a b ∷ Shl rP rH 0 ∷ []) ++ (rounds ++ (Shl rT rG 1 ∷ Xor d rH rT ∷ []))
 
 -- a plan's step as steps on registers
 abbrev pub laidOut : Step → List Step

@@ -9,14 +9,10 @@ use borrow.Author.Tests.{ltb-false, eqb-true, not-false}
 use Rattle.word.specs.declared.answer.Answer.{Answer}
 use Rattle.word.specs.Layout.{isShareCount}
 use Rattle.word.proofs.Small.{share-range}
-use Rattle.word.specs.Answers.{done, refused, given}
+use Rattle.word.proofs.Passed.{passed}
+use Rattle.word.specs.Answers.{done, refused}
 use Rattle.masking.specs.Foretold.{foretoldTape}
 use Rattle.operations.specs.Shares.{operationAnswer}
-
--- a turn-down that was not given
-passed : (b : Bool) (x next : Answer) → (x .number ≡ 0 → ⊥) → given b x next .number ≡ 0 → (b ≡ false) × (next .number ≡ 0)
-passed true x next f e = absurd (f e)
-passed false x next f e = (refl, e)
 
 both : (p q : Bool) → not (p && q) ≡ false → (p ≡ true) × (q ≡ true)
 both true true e = (refl, refl)

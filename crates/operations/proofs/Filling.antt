@@ -1,9 +1,9 @@
--- Slices filled word by word: zeros, operands placed, the result copied out. Assumes nothing.
+-- Slices filled word by word: zeros, operands placed, the result copied out. Rests on masking's Rising.
 use mathlib.Core.Path.{_≡_, refl, sym, ap, _∙_, subst}
 use mathlib.Core.List.{List, [], _∷_, _++_, map}
 use mathlib.Core.Logic.{inl, inr}
 use Prim.Native.Nat.{ℕ, zero, suc, _+_, _-_, _≤_, _<_}
-use native.Mathlib.Nat.{add-zero, zero-add}
+use native.Mathlib.Nat.{zero-add}
 use native.Mathlib.Decide.{ℕ-discrete}
 use native.Mathlib.Numerals.{add-one}
 use native.Mathlib.Omega.{arith}
@@ -12,6 +12,7 @@ use lib.Seq.{drop-cons, getD-append-add, getD-take, length-take-le, ext-getD, ge
 use borrow.Rule.Slice.PartMut.{midOf, putMid, postOf, mid-len, same-len-mid}
 use Rattle.binary64.proofs.Cases.{lt-or-ge}
 use Rattle.word.specs.Layout.{cell}
+use Rattle.masking.proofs.emitted.Rising.{getD-from}
 use Rattle.masking.specs.Translation.{shares, upFrom}
 use Rattle.operations.specs.Shares.{placedIn}
 
@@ -62,17 +63,10 @@ length-from : (s c : ℕ) → length (upFrom s c) ≡ c
 length-from s zero = refl
 length-from s (suc c) = ap suc (length-from (suc s) c)
 
-from-at : (F : ℕ → ℕ) (s c k : ℕ) → k < c → getD (map F (upFrom s c)) k 0 ≡ F (s + k)
-from-at F s zero k h = absurd (omega arith)
-from-at F s (suc c) zero h = ap F (sym (add-zero s))
-from-at F s (suc c) (suc k) h =
-    let e : suc s + k ≡ s + suc k = omega arith in
-    from-at F (suc s) c k (omega arith) ∙ ap F e
-
 pub all-filled : (F : ℕ → ℕ) (l : List ℕ) (n : ℕ) → length l ≡ n → Filled F n l → l ≡ map F (shares n)
 all-filled F l n e f =
     ext-getD 0 l (map F (shares n)) (e ∙ sym (length-map (shares n) F ∙ length-from 0 n))
-    (λ i h. f i (omega arith) ∙ sym (from-at F 0 n i (omega arith) ∙ ap F (zero-add i)))
+    (λ i h. f i (omega arith) ∙ sym (getD-from F 0 n i (omega arith) ∙ ap F (zero-add i)))
 
 -- an operand's shares
 pub placed-turn : (r i : ℕ) (x cells : List ℕ) → i < length x → placedIn r i (drop i x) cells ≡ placedIn r (i + 1) (drop (i + 1) x) (set cells (cell i r) (getD x i 0))

@@ -77,9 +77,6 @@ product-joins = plan-joins productPlan product product-plan
 pub sum-joins : Joins sumPlan sum
 sum-joins = plan-joins sumPlan sum sum-plan
 
-pub floor-joins : Joins floorPlan (λ a b. floor a)
-floor-joins = plan-joins floorPlan (λ a b. floor a) floor-plan
-
 -- the call of floor has one operand
 pub floor-joins-one : JoinsOne floorPlan floor
 floor-joins-one n least most x tape X W enough =

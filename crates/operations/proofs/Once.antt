@@ -1,5 +1,5 @@
--- What one turn of the loop over shares does. Assumes nothing.
-use mathlib.Core.Path.{_≡_, refl, sym, ap, _∙_}
+-- What one turn of the loop over shares does. Rests on masking's Rising.
+use mathlib.Core.Path.{_≡_, refl, ap, _∙_}
 use mathlib.Core.List.{List, [], _∷_, map}
 use Prim.Native.Nat.{ℕ, suc, _+_, _-_, _*_, _≤_, _<_}
 use native.Mathlib.Nat.{mul-le-mul-right, suc-mul}
@@ -8,29 +8,11 @@ use native.Mathlib.Omega.{arith}
 use lib.ListN.{getD, set, drop}
 use Rattle.masking.specs.Translation.{shares, upFrom}
 use Rattle.masking.specs.Machine.{takes, execStep, execSteps, randsOf}
+use Rattle.masking.proofs.emitted.Rising.{rising}
 use Rattle.operations.specs.declared.gadgets.once.Place.{Place}
 use Rattle.operations.specs.declared.gadgets.once.Op.{Op}
 use Rattle.operations.specs.declared.gadgets.once.Op.the-variants as op
 use Rattle.operations.specs.Gadgets.{InCells, at, onceStep, valueOf}
-
--- ---- numbers from one on
-module _ (i n : ℕ) where
-  -- i, then those from i + 1 on
-  pub rising : i < n → upFrom i (n - i) ≡ i ∷ upFrom (i + 1) (n - (i + 1))
-  rising h =
-      let e : n - i ≡ suc (n - (i + 1)) = omega arith in
-      ap (upFrom i) e ∙ ap (λ (k : ℕ). i ∷ upFrom k (n - (i + 1))) (sym (add-one i))
-
-  -- at the end there are none
-  pub risen : n ≤ i → upFrom i (n - i) ≡ []
-  risen h =
-      let e : n - i ≡ 0 = omega arith in
-      ap (upFrom i) e
-
-pub from-first : (n : ℕ) → shares n ≡ upFrom 0 (n - 0)
-from-first n =
-    let e : n ≡ n - 0 = omega arith in
-    ap (upFrom 0) e
 
 -- ---- the shares of a place
 pub at-first : (p : Place) → p .base ≡ at p 0

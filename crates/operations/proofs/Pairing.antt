@@ -13,7 +13,7 @@ use Rattle.word.specs.declared.step.Step.the-variants.{Xor, And, Rand}
 use Rattle.masking.specs.Translation.{Pair, shares, upFrom, pairsOf, pairs, refresh, scratch}
 use Rattle.masking.specs.Machine.{execStep, execSteps}
 use Rattle.operations.specs.Gadgets.{Ran, refreshed, crossed, crossedPair}
-use Rattle.operations.proofs.Once.{rising, risen, from-first}
+use Rattle.masking.proofs.emitted.Rising.{rising, risen, from-first}
 
 -- ---- steps for each pair, pair by pair
 abbrev pub pair : ℕ → ℕ → Pair

@@ -17,6 +17,7 @@ use Rattle.masking.specs.Unsplit.{xorOver, joined}
 use Rattle.masking.specs.Secrecy.{Agree}
 use Rattle.masking.proofs.joined.Cells.{set-words}
 use Rattle.masking.proofs.joined.Sums.{sum-same}
+use Rattle.operations.proofs.Filling.{placed-size}
 use Rattle.operations.specs.Shares.{placedIn, placed}
 use Rattle.operations.specs.Splitting.{xorAll}
 
@@ -33,10 +34,6 @@ all-shares : (n : ℕ) (x : List ℕ) → length x ≤ n → xorOver (λ i. getD
 all-shares n x l = shares-from x 0 n (λ i. getD x i 0) l (λ j. ap (λ (k : ℕ). getD x k 0) (zero-add j))
 
 -- ---- shares into one register
-in-size : (r i : ℕ) (x cells : List ℕ) → length (placedIn r i x cells) ≡ length cells
-in-size r i [] cells = refl
-in-size r i (v ∷ x) cells = in-size r (suc i) x (set cells (cell i r) v) ∙ length-set cells (cell i r) v
-
 in-words : (r i : ℕ) (x cells : List ℕ) → Words x → Words cells → Words (placedIn r i x cells)
 in-words r i [] cells wx w = w
 in-words r i (v ∷ x) cells wx w = in-words r (suc i) x (set cells (cell i r) v) (λ k. wx (suc k)) (set-words cells (cell i r) v w (wx 0))
@@ -76,7 +73,7 @@ module _ (x y : List ℕ) (fewX : length x ≤ 8) (fewY : length y ≤ 8) where
   withX = placedIn 0 0 x zeros
 
   withX-size : length withX ≡ 512
-  withX-size = in-size 0 0 x zeros
+  withX-size = placed-size 0 0 x zeros
 
   pub register-0 : (i : ℕ) → getD (placed x y) (cell i 0) 0 ≡ getD x i 0
   unfolding placed
@@ -100,7 +97,7 @@ module _ (x y : List ℕ) (fewX : length x ≤ 8) (fewY : length y ≤ 8) where
   unfolding placed
   placed-start wx wy =
       record {
-        size = in-size 1 0 y withX ∙ withX-size;
+        size = placed-size 1 0 y withX ∙ withX-size;
         words = in-words 1 0 y withX wy (in-words 0 0 x zeros wx (λ k. rw (zero-at k) (pow-pos 64)));
       }
 

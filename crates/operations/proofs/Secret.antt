@@ -57,9 +57,6 @@ product-secret = plan-secret productPlan product product-plan
 pub sum-secret : Secretive sumPlan
 sum-secret = plan-secret sumPlan sum sum-plan
 
-pub floor-secret : Secretive floorPlan
-floor-secret = plan-secret floorPlan (λ a b. floor a) floor-plan
-
 -- the call of floor has one operand
 pub floor-secret-one : SecretiveOne floorPlan
 floor-secret-one n least most s inside =

@@ -15,8 +15,8 @@ use Rattle.word.specs.Word.{kindOf, bit27, fieldD, fieldA, fieldB, either, row,
 use Rattle.word.specs.Layout.{tapeOf}
 use Rattle.masking.specs.Translation.{block, blocks, laidOut, scratch, translated, wordsFor}
 use Rattle.masking.specs.Machine.{randsOf, stepsOf}
-use Rattle.masking.proofs.emitted.Tests.{both}
-use Rattle.masking.proofs.emitted.Steps.{taken-kind, taken-rule, steps-of-words}
+use Rattle.word.proofs.Together.{taken-rule, both}
+use Rattle.masking.proofs.emitted.Steps.{taken-kind, steps-of-words}
 use Rattle.masking.proofs.emitted.Counts.{step-counts}
 use Rattle.operations.specs.Gadgets.{Enough, GoodWord, Ran, Still, isGood}
 use Rattle.operations.proofs.Running.{still-ran}

@@ -14,7 +14,7 @@ use Rattle.word.specs.declared.step.Decoded.the-variants.{Good, Bad}
 use Rattle.word.specs.Word.{planStep, kindOf}
 use Rattle.word.specs.Layout.{planMax}
 use Rattle.word.specs.Answers.{firstBad}
-use Rattle.masking.specs.Translation.{generated, passed, Pair, pairs, shares, refresh, scratch}
+use Rattle.masking.specs.Translation.{Pair, pairs, shares, refresh, scratch}
 use Rattle.masking.specs.Machine.{execSteps, randsOf}
 use Rattle.operations.specs.declared.gadgets.once.Place.{Place}
 use Rattle.operations.specs.declared.gadgets.once.Op.{Op}
@@ -131,13 +131,6 @@ OfPlan p = (p .base < 32) × (p .stride ≡ 32)
 -- helper register h of ADD
 abbrev pub helperAt : ℕ → Place
 helperAt h = record { base = 288 + h; stride = 8 }
-
--- a round of ADD that is not the last, and all of its rounds
-abbrev pub round : ℕ → List Step
-round k = generated k ++ passed k
-
-abbrev pub rounds : List Step
-rounds = round 1 ++ (round 2 ++ (round 4 ++ (round 8 ++ (round 16 ++ generated 32))))
 
 -- ---- plan words
 

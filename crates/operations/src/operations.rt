@@ -13,12 +13,13 @@ ghost use Rattle.operations.specs.Shares.{callAnswer, finished, operatio
 use crate::gadgets::plan_word::word_done;
 use word::answer::Answer;
 use word::share_count::is_share_count;
+use word::step_word::StepWord;
 
 // Tape words of a plan word for each pair of shares: 2 for AND, 24 for ADD.
 fn word_per_pair(w: u32) -> usize
     ensures { λ r. ⌜ r ≡ wordPerPair w ⌝ }
 {
-    let kind = w >> 28;
+    let kind = w >> StepWord::KIND_AT;
     match kind {
         3 => 2,
         8 => 24,
@@ -68,7 +69,7 @@ fn operation_answer(
     if result != n {
         return Answer::refused(4);
     }
-    if work != 512 {
+    if work != StepWord::CELLS {
         return Answer::refused(4);
     }
     let needed = tape_words(plan, n);
@@ -121,7 +122,7 @@ fn place(r: usize, x: &[u64], cells: &mut [u64])
 {
     let mut i = 0;
     while i < x.len() {
-        cells[32 * i + r] = x[i];
+        cells[StepWord::REGISTERS * i + r] = x[i];
         i += 1;
     }
 }
@@ -157,7 +158,7 @@ fn copy_out(cells: &[u64], result: &mut [u64])
 {
     let mut i = 0;
     while i < result.len() {
-        result[i] = cells[32 * i + 2];
+        result[i] = cells[StepWord::REGISTERS * i + 2];
         i += 1;
     }
 }

@@ -1,12 +1,11 @@
 -- The sums over a plan's words (Measure), and what the answers say of the plan. Assumes nothing.
 use mathlib.Core.Path.{_≡_, refl, sym, ap, _∙_}
-use mathlib.Core.Bool.{Bool, true, false, cond, not}
+use mathlib.Core.Bool.{Bool, true, false, not}
 use mathlib.Core.List.{List, _∷_}
-use Prim.Native.Nat.{ℕ, _+_, _-_, _*_, _/_, _≤_, _<_}
-use native.Mathlib.Nat.{mul-le-mul-left}
+use Prim.Native.Nat.{ℕ, _+_, _-_, _*_, _≤_, _<_}
 use native.Mathlib.Numerals.{add-one}
 use native.Mathlib.Omega.{arith}
-use lib.Dec.{eqb, ltb}
+use lib.Dec.{ltb}
 use lib.ListN.{length, drop, getD}
 use lib.Seq.{drop-cons}
 use borrow.Author.Tests.{ltb-false, not-false}
@@ -15,31 +14,11 @@ use Rattle.word.specs.Word.{planStep, kindOf}
 use Rattle.word.specs.Layout.{lengthOf, tapeOf, planMax, isShareCount}
 use Rattle.word.specs.Answers.{firstBad, refused, badAt, given}
 use Rattle.word.proofs.Checking.{first-bad}
-use Rattle.word.proofs.Small.{share-range}
+use Rattle.word.proofs.Small.{share-range, length-le, tape-le}
 use Rattle.masking.specs.Foretold.{Accepted, foretoldWords, foretoldTape}
 use Rattle.shares.specs.Calls.{planChecked, measured, translateAnswer}
 
 -- ---- sums
-
-module _ (n : ℕ) (most : n ≤ 8) where
-  -- no plan word gives more than ADD's share words and tape words for eight shares
-  pub length-le : (k : ℕ) → lengthOf k n ≤ 3816
-  unfolding lengthOf
-  length-le k = by (eqb k 3) (eqb k 8) (mul-le-mul-left n most)
-    where
-      by : (p q : Bool) → n * n ≤ n * 8 → cond p (5 * (n * n) - 2 * n) (cond q (60 * (n * n) - 3 * n) n) ≤ 3816
-      by true q h = omega arith
-      by false true h = omega arith
-      by false false h = omega arith
-
-  pub tape-le : (k : ℕ) → tapeOf k n ≤ 768
-  unfolding tapeOf
-  tape-le k = by (eqb k 3) (eqb k 8) (n * (n - 1)) (mul-le-mul-left n (omega arith))
-    where
-      by : (p q : Bool) (m : ℕ) → m ≤ n * 8 → cond p (2 * (m / 2)) (cond q (24 * (m / 2)) 0) ≤ 768
-      by true q m h = omega arith
-      by false true m h = omega arith
-      by false false m h = omega arith
 
 -- what the first i words count, and what is left
 pub record Summed (n : ℕ) (plan : List ℕ) (words tape i : ℕ) : Type 0 where

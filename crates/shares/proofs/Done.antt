@@ -12,15 +12,11 @@ use Rattle.word.specs.declared.answer.Answer.{Answer}
 use Rattle.word.specs.Word.{programStep}
 use Rattle.word.specs.Layout.{programMax}
 use Rattle.word.proofs.Checking.{first-bad}
-use Rattle.word.specs.Answers.{firstBad, done, refused, badAt, given}
+use Rattle.word.proofs.Passed.{passed}
+use Rattle.word.specs.Answers.{firstBad, done, refused, badAt}
 use Rattle.masking.specs.Machine.{rands}
 use Rattle.masking.specs.Runs.{State, due, runAnswer}
 use Rattle.masking.proofs.InARow.{due-length}
-
--- a turn-down that was not given
-pub passed : (b : Bool) (x next : Answer) → (x .number ≡ 0 → ⊥) → given b x next .number ≡ 0 → (b ≡ false) × (next .number ≡ 0)
-passed true x next f e = absurd (f e)
-passed false x next f e = (refl, e)
 
 neither : (p q : Bool) → (p || q) ≡ false → (p ≡ false) × (q ≡ false)
 neither true q e = let z : true ≡ false = e in (cc, cc)

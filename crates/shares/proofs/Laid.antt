@@ -4,11 +4,11 @@ use mathlib.Core.List.{List, [], _∷_, _++_, map}
 use Prim.Native.Nat.{ℕ}
 use Rattle.word.specs.declared.step.Step.{Step}
 use Rattle.word.specs.declared.step.Step.the-variants.{Xor, And, Shl}
-use Rattle.masking.specs.Translation.{scratch, shares, pairs, andBlock, block, blocks, adding, generated, passed}
+use Rattle.masking.specs.Translation.{scratch, shares, pairs, andBlock, block, blocks, adding, generated, passed, round, rounds}
 use Rattle.masking.proofs.emitted.Steps.{blocks-append}
 use Rattle.shares.specs.declared.emit.Once.the-variants.{CopyIn, Square, CopyOut}
 use Rattle.shares.specs.declared.pairs.Pairing.the-variants.{Refresh, Products}
-use Rattle.shares.specs.Emission.{onceStep, pairSteps, round, rounds}
+use Rattle.shares.specs.Emission.{onceStep, pairSteps}
 
 module _ (n : ℕ) where
   pub and-parts : (d a b : ℕ) → andBlock scratch n d a b ≡

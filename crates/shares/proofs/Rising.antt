@@ -1,32 +1,12 @@
 -- The shares from one on, and what shares and pairs get of them. Assumes nothing.
 use mathlib.Core.Path.{_≡_, refl, sym, ap, _∙_}
 use mathlib.Core.List.{List, [], _∷_, _++_, append-assoc}
-use Prim.Native.Nat.{ℕ, suc, _+_, _-_, _≤_, _<_}
-use native.Mathlib.Numerals.{add-one}
-use native.Mathlib.Omega.{arith}
+use Prim.Native.Nat.{_+_, _-_}
 use Rattle.word.specs.declared.step.Step.{Step}
-use Rattle.masking.specs.Translation.{Pair, shares, upFrom}
+use Rattle.masking.specs.Translation.{Pair, shares}
 use Rattle.shares.specs.declared.pairs.Pairing.{Pairing}
 use Rattle.shares.specs.declared.pairs.Pairing.the-variants.{Refresh, Products}
 use Rattle.shares.specs.Emission.{pairSteps}
-
-module _ (i n : ℕ) where
-  -- the shares from i on: i, then those from i + 1 on
-  pub rising : i < n → upFrom i (n - i) ≡ i ∷ upFrom (i + 1) (n - (i + 1))
-  rising h =
-      let e : n - i ≡ suc (n - (i + 1)) = omega arith in
-      ap (upFrom i) e ∙ ap (λ (k : ℕ). i ∷ upFrom k (n - (i + 1))) (sym (add-one i))
-
-  -- at the end there are none
-  pub risen : n ≤ i → upFrom i (n - i) ≡ []
-  risen h =
-      let e : n - i ≡ 0 = omega arith in
-      ap (upFrom i) e
-
-pub from-first : (n : ℕ) → shares n ≡ upFrom 0 (n - 0)
-from-first n =
-    let e : n ≡ n - 0 = omega arith in
-    ap (upFrom 0) e
 
 -- what pairs get, pair by pair
 pub pair-first : (k : Pairing) (p : Pair) (ps : List Pair) → pairSteps k (p ∷ ps) ≡ pairSteps k (p ∷ []) ++ pairSteps k ps

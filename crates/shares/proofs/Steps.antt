@@ -12,7 +12,7 @@ use Rattle.word.specs.declared.step.Step.{Step}
 use Rattle.word.specs.declared.step.Step.the-variants.{Const, Xor, And, Not, Shl, Shr, Spread, Add, Rand}
 use Rattle.word.specs.Word.{inPlan}
 use Rattle.masking.specs.Translation.{scratch, shares, firstOther, block, blocks, laidOut}
-use Rattle.masking.proofs.emitted.Tests.{both}
+use Rattle.word.proofs.Together.{both}
 use Rattle.masking.proofs.emitted.Ranges.{one, two}
 use Rattle.shares.specs.Emission.{Registers, shareStep}
 

@@ -1,38 +1,19 @@
 -- One turn of a loop over share words: its effect on cells and tape. Rests on masking's InARow.
 use mathlib.Core.Path.{_≡_, refl, sym, ap, ap₂, _∙_}
 use mathlib.Core.List.{List, [], _∷_, _++_}
-use Prim.Native.Nat.{ℕ, _+_, _-_, _≤_, _<_, min}
+use Prim.Native.Nat.{ℕ, _+_, _-_, _<_, min}
 use native.Mathlib.Nat.{add-zero, add-sub-cancel-left, le-of-eq}
 use native.Mathlib.Numerals.{add-one}
-use native.Mathlib.Omega.{arith}
-use lib.ListN.{length, getD, set, take, drop, length-drop}
+use lib.ListN.{length, getD, take, drop, length-drop}
 use lib.Seq.{drop-cons, drop-drop, getD-drop, take-all}
-use Rattle.word.specs.declared.step.Step.{Step}
-use Rattle.word.specs.declared.step.Step.the-variants.{Const, Xor, And, Not, Shl, Shr, Spread, Add, Rand}
 use Rattle.word.specs.declared.step.Decoded.{Decoded}
 use Rattle.word.specs.declared.step.Decoded.the-variants.{Good, Bad}
 use Rattle.word.specs.Word.{programStep}
-use Rattle.word.specs.Table.{dest, becomes}
-use Rattle.masking.specs.Machine.{takes, withStep, execStep, execSteps, randsOf, exec, rands}
+use Rattle.masking.specs.Machine.{withStep, execStep, execSteps, exec, rands}
 use Rattle.masking.specs.Runs.{due}
 use Rattle.masking.proofs.InARow.{exec-append, rands-append, due-length, due-take}
 
--- what one word does and takes, by its step
 module _ (w : ℕ) where
-  pub rands-good : (s : Step) → programStep w ≡ Good s → rands (w ∷ []) ≡ takes s
-  rands-good s e = ap (λ (d : Decoded). randsOf (withStep d [])) e ∙ add-zero (takes s)
-
-  pub rands-bad : programStep w ≡ Bad → rands (w ∷ []) ≡ 0
-  rands-bad e = ap (λ (d : Decoded). randsOf (withStep d [])) e
-
-  pub exec-good : (s : Step) (next : ℕ) (cells : List ℕ) → programStep w ≡ Good s
-      → exec (w ∷ []) (next ∷ []) cells ≡ set cells (dest s) (becomes s (λ c. getD cells c 0) next)
-  unfolding execStep
-  exec-good s next cells e = ap (λ (d : Decoded). execSteps (withStep d []) (next ∷ []) cells) e
-
-  pub exec-bad : (next : ℕ) (cells : List ℕ) → programStep w ≡ Bad → exec (w ∷ []) (next ∷ []) cells ≡ cells
-  exec-bad next cells e = ap (λ (d : Decoded). execSteps (withStep d []) (next ∷ []) cells) e
-
   -- one word looks at no more than one tape word
   exec-next : (tape cells : List ℕ) → exec (w ∷ []) tape cells ≡ exec (w ∷ []) (getD tape 0 0 ∷ []) cells
   unfolding execStep
@@ -41,25 +22,6 @@ module _ (w : ℕ) where
       by : (d : Decoded) → execSteps (withStep d []) tape cells ≡ execSteps (withStep d []) (getD tape 0 0 ∷ []) cells
       by (Good s) = refl
       by Bad = refl
-
-  -- and takes at most one
-  pub rands-one : rands (w ∷ []) ≤ 1
-  rands-one = by (programStep w)
-    where
-      one : (s : Step) → takes s ≤ 1
-      one (Const d k) = omega arith
-      one (Xor d a b) = omega arith
-      one (And d a b) = omega arith
-      one (Not d a) = omega arith
-      one (Shl d a b) = omega arith
-      one (Shr d a b) = omega arith
-      one (Spread d a) = omega arith
-      one (Add d a b) = omega arith
-      one (Rand d) = omega arith
-
-      by : (d : Decoded) → randsOf (withStep d []) ≤ 1
-      by (Good s) = omega (arith, one s, add-zero (takes s))
-      by Bad = omega arith
 
 module _ (words : List ℕ) (i : ℕ) (h : i < length words) where
   next-word : drop i words ≡ (getD words i 0 ∷ []) ++ drop (i + 1) words

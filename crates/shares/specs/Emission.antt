@@ -1,6 +1,6 @@
 -- What the parts of Translate write, each by masking's definitions of the translation.
 use mathlib.Core.Path.{_≡_}
-use mathlib.Core.List.{List, _++_, map}
+use mathlib.Core.List.{List, map}
 use Prim.Native.Nat.{ℕ, _+_, _≤_, _<_}
 use lib.ListN.{length}
 use lib.Seq.{sets}
@@ -8,7 +8,7 @@ use Rattle.word.specs.declared.step.Step.{Step}
 use Rattle.word.specs.declared.step.Step.the-variants.{Const, Xor, And, Not, Shl, Shr, Spread, Add, Rand}
 use Rattle.word.specs.Word.{wordOf}
 use Rattle.word.specs.Layout.{cellY, cellZ}
-use Rattle.masking.specs.Translation.{Pair, firstOther, generated, passed, refresh, products, scratch, shareCell}
+use Rattle.masking.specs.Translation.{Pair, firstOther, refresh, products, scratch, shareCell}
 use Rattle.shares.specs.declared.emit.Once.{Once}
 use Rattle.shares.specs.declared.emit.Once.the-variants.{Each, CopyIn, Square, CopyOut}
 use Rattle.shares.specs.declared.pairs.Pairing.{Pairing}
@@ -68,10 +68,3 @@ pairSteps (Products a) ps = products scratch a ps
 abbrev pub PairingRegisters : Pairing → Type 0
 PairingRegisters Refresh = Unit {0}
 PairingRegisters (Products a) = a < 40
-
--- a round of ADD, and its rounds: "For k = 1, 2, 4, 8, 16, 32: .. and, except after 32, .."
-abbrev pub round : ℕ → List Step
-round k = generated k ++ passed k
-
-abbrev pub rounds : List Step
-rounds = round 1 ++ (round 2 ++ (round 4 ++ (round 8 ++ (round 16 ++ generated 32))))

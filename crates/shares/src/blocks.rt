@@ -2,7 +2,6 @@
 ghost use Prim.Native.Nat.{_<_};
 ghost use Rattle.masking.specs.Translation as translation;
 ghost use Rattle.masking.specs.Translation.{andBlock, scratch};
-ghost use Rattle.shares.specs.Emission as emission;
 ghost use Rattle.shares.specs.Emission.{Emits, Registers, Room};
 use crate::emit::Once;
 use crate::emit::each_share;
@@ -59,8 +58,8 @@ fn generated(k: u16, n: u8, at: usize, out: &mut [u32]) -> usize
 // A round that is not the last: then T = P SHL k; P = P AND T.
 fn round(k: u16, n: u8, at: usize, out: &mut [u32]) -> usize
     requires { ⌜ k < 64 ⌝ }
-    requires { ⌜ Room (now out) at (translation.blocks scratch n (emission.round k)) ⌝ }
-    ensures { λ r. ⌜ Emits (now (out .entry)) at (translation.blocks scratch n (emission.round k)) (now (out .exit)) r ⌝ }
+    requires { ⌜ Room (now out) at (translation.blocks scratch n (translation.round k)) ⌝ }
+    ensures { λ r. ⌜ Emits (now (out .entry)) at (translation.blocks scratch n (translation.round k)) (now (out .exit)) r ⌝ }
 {
     let at = generated(k, n, at, out);
     let at = block(Step::Shl { d: T, a: P, b: k }, n, at, out);
@@ -68,8 +67,8 @@ fn round(k: u16, n: u8, at: usize, out: &mut [u32]) -> usize
 }
 
 fn rounds(n: u8, at: usize, out: &mut [u32]) -> usize
-    requires { ⌜ Room (now out) at (translation.blocks scratch n emission.rounds) ⌝ }
-    ensures { λ r. ⌜ Emits (now (out .entry)) at (translation.blocks scratch n emission.rounds) (now (out .exit)) r ⌝ }
+    requires { ⌜ Room (now out) at (translation.blocks scratch n translation.rounds) ⌝ }
+    ensures { λ r. ⌜ Emits (now (out .entry)) at (translation.blocks scratch n translation.rounds) (now (out .exit)) r ⌝ }
 {
     let at = round(1, n, at, out);
     let at = round(2, n, at, out);

@@ -1,12 +1,12 @@
 -- Bounds: of a share count, and on the counts per kind, where a share count below 256 keeps squares and pairs small.
-use Prim.Native.Nat.{ℕ, zero, suc, _*_, _-_, _≤_, _<_}
+use Prim.Native.Nat.{ℕ, zero, suc, _-_, _*_, _/_, _≤_, _<_}
 use native.Mathlib.Nat.{mul-le-mul-left, mul-one, le-trans, le-of-eq}
 use mathlib.Core.Path.{_≡_, refl, sym}
-use mathlib.Core.Bool.{Bool, true, false, _&&_}
+use mathlib.Core.Bool.{Bool, true, false, cond, _&&_}
 use native.Mathlib.Omega.{arith}
-use lib.Dec.{leb}
+use lib.Dec.{eqb, leb}
 use borrow.Author.Tests.{leb-true}
-use Rattle.word.specs.Layout.{isShareCount}
+use Rattle.word.specs.Layout.{isShareCount, lengthOf, tapeOf}
 
 pub square-lt : (n : ℕ) → n < 256 → n * n < 65536
 square-lt n h =
@@ -32,3 +32,23 @@ share-range n e =
     both : (p q : Bool) → (p && q) ≡ true → (p ≡ true) × (q ≡ true)
     both true q h = (refl, h)
     both false q h = let z : _≡_ {A = ℕ} 0 1 = cc in absurd (omega arith)
+
+module _ (n : ℕ) (most : n ≤ 8) where
+  -- no plan word gives more than ADD's share words and tape words for eight shares
+  pub length-le : (k : ℕ) → lengthOf k n ≤ 3816
+  unfolding lengthOf
+  length-le k = by (eqb k 3) (eqb k 8) (mul-le-mul-left n most)
+    where
+      by : (p q : Bool) → n * n ≤ n * 8 → cond p (5 * (n * n) - 2 * n) (cond q (60 * (n * n) - 3 * n) n) ≤ 3816
+      by true q h = omega arith
+      by false true h = omega arith
+      by false false h = omega arith
+
+  pub tape-le : (k : ℕ) → tapeOf k n ≤ 768
+  unfolding tapeOf
+  tape-le k = by (eqb k 3) (eqb k 8) (n * (n - 1)) (mul-le-mul-left n (omega arith))
+    where
+      by : (p q : Bool) (m : ℕ) → m ≤ n * 8 → cond p (2 * (m / 2)) (cond q (24 * (m / 2)) 0) ≤ 768
+      by true q m h = omega arith
+      by false true m h = omega arith
+      by false false m h = omega arith

@@ -1,12 +1,10 @@
 -- The record Counts of specs: the lengths and tape words that document 01 gives for each kind of plan word, the kinds and cells of the
 -- share steps, and their sums over a plan. Lengths and tape words are computed at each share count of 2..8; the rest is Good's and Steps's.
 use mathlib.Core.Path.{_≡_, refl, ap, ap₂, _∙_}
-use mathlib.Core.Bool.{Bool, true, false, cond}
 use mathlib.Core.List.{List, [], _∷_, _++_, map}
 use Prim.Native.Nat.{ℕ, zero, suc, _+_, _-_, _*_, _≤_}
 use native.Mathlib.Omega.{arith}
-use native.Mathlib.Nat.{mul-le-mul-left}
-use lib.Dec.{T, eqb}
+use lib.Dec.{T}
 use lib.ListN.{length, length-append, length-map}
 use Rattle.word.specs.declared.step.Step.{Step}
 use Rattle.word.specs.declared.step.Step.the-variants.{Const, Xor, And, Not, Shl, Shr, Spread, Add, Rand}
@@ -14,6 +12,7 @@ use Rattle.word.specs.Word.{planStep, programStep, kindOf, kindNumber, inPlan, 
 use Rattle.word.specs.Layout.{lengthOf, tapeOf}
 use Rattle.word.specs.Answers.{firstOf, firstBad}
 use Rattle.word.proofs.Together.{program-exact}
+use Rattle.word.proofs.Small.{length-le}
 use Rattle.masking.specs.Translation.{upFrom, shares, shareCell, firstOther, scratch, andBlock, blocks, adding, laidOut, translated, program}
 use Rattle.masking.specs.Foretold.{Accepted, foretoldWords, foretoldTape}
 use Rattle.masking.specs.Machine.{takes, randsOf}
@@ -115,19 +114,9 @@ module _ (n : ℕ) (least : 2 ≤ n) (most : n ≤ 8) where
       ∙ rands-append (blocks scratch n (stepsFor (planStep w))) (blocks scratch n (planSteps ws))
       ∙ ap₂ (λ (x y : ℕ). x + y) (word-foretold w (h .0) .1) (plan-tape ws (h .1))
 
-  -- no plan word gives more than ADD's share words for eight shares
-  longest-word : (k : ℕ) → lengthOf k n ≤ 3816
-  unfolding lengthOf
-  longest-word k = by (eqb k 3) (eqb k 8) (mul-le-mul-left n most)
-    where
-      by : (p q : Bool) → n * n ≤ n * 8 → cond p (5 * (n * n) - 2 * n) (cond q (60 * (n * n) - 3 * n) n) ≤ 3816
-      by true q h = omega arith
-      by false true h = omega arith
-      by false false h = omega arith
-
   longest : (plan : List ℕ) → foretoldWords n plan ≤ 3816 * length plan
   longest [] = omega arith
-  longest (w ∷ ws) = omega (arith, longest-word (kindOf w), longest ws)
+  longest (w ∷ ws) = omega (arith, length-le n most (kindOf w), longest ws)
 
 -- words of steps of a share program hold no bad word
 no-bad : (ss : List Step) → All (λ s. T (inProgram s)) ss → firstBad programStep (map wordOf ss) ≡ length (map wordOf ss)
@@ -149,4 +138,5 @@ plan-counts n plan A =
         ∙ plan-length n (A .least) (A .most) plan (plan-words plan (A .good))
 
 pub counts : Counts
-counts = record { step = step-counts; plan = plan-counts }
+unfolding lengthOf tapeOf
+counts = record { step = step-counts; plan = plan-counts; at-2 = (refl, refl, refl, refl); at-8 = (refl, refl, refl, refl) }

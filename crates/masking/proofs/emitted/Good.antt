@@ -12,7 +12,8 @@ use Rattle.word.specs.declared.step.Step.the-variants.{Const, Xor, And, Not, Sh
 use Rattle.word.specs.Word.{within, kindNumber, inPlan, inProgram}
 use Rattle.masking.specs.Translation.{shareCell, scratch, blocks, adding, laidOut, translated}
 use Rattle.masking.specs.Counts.{usedCell, naming, allOf}
-use Rattle.masking.proofs.emitted.Tests.{both, join, or-left, or-right, All, all-tested, tested-all}
+use Rattle.word.proofs.Together.{both}
+use Rattle.masking.proofs.emitted.Tests.{join, or-left, or-right, All, all-tested, tested-all}
 use Rattle.masking.proofs.emitted.Places.{share-cases}
 use Rattle.masking.proofs.emitted.Ranges.{Names, Kinds, blocks-all}
 

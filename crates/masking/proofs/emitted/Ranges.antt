@@ -8,7 +8,8 @@ use Rattle.word.specs.declared.step.Step.{Step}
 use Rattle.word.specs.declared.step.Step.the-variants.{Const, Xor, And, Not, Shl, Shr, Spread, Add, Rand}
 use Rattle.word.specs.Word.{within}
 use Rattle.masking.specs.Translation.{shares, Pair, pairs, shareCell, firstOther, Scratch, refresh, products, andBlock, block, blocks}
-use Rattle.masking.proofs.emitted.Tests.{both, All, all-append, all-from}
+use Rattle.word.proofs.Together.{both}
+use Rattle.masking.proofs.emitted.Tests.{All, all-append, all-from}
 use Rattle.masking.proofs.emitted.Pairs.{Apart, apart-pairs}
 
 -- cells that Q names for n shares of w registers

@@ -1,7 +1,7 @@
 -- From words to steps: a plan's good words are its steps, and its share program's words take apart to the share steps laid out.
 -- Rests on word's Together (parts put together and taken apart are themselves) and Good (every share step is one of a program).
 use mathlib.Core.Path.{_≡_, refl, sym, ap, ap₂, _∙_}
-use mathlib.Core.Bool.{Bool, true, false}
+use mathlib.Core.Bool.{Bool, true}
 use mathlib.Core.List.{List, [], _∷_, _++_, map, append-assoc}
 use Prim.Native.Nat.{ℕ, zero, suc}
 use native.Mathlib.Omega.{arith}
@@ -11,25 +11,17 @@ use borrow.Author.Tests.{eqb-true}
 use Rattle.word.specs.declared.step.Step.{Step}
 use Rattle.word.specs.declared.step.Decoded.{Decoded}
 use Rattle.word.specs.declared.step.Decoded.the-variants.{Good, Bad}
-use Rattle.word.specs.Word.{kindOf, bit27, fieldD, fieldA, fieldB, either, row, named, kindNumber, within, inPlan, inProgram, held, taken, planStep, wordOf}
+use Rattle.word.specs.Word.{kindOf, bit27, fieldD, fieldA, fieldB, row, named, kindNumber, within, inPlan, inProgram, held, taken, planStep, wordOf}
 use Rattle.word.specs.Answers.{firstOf, firstBad}
-use Rattle.word.proofs.Together.{program-exact}
+use Rattle.word.proofs.Together.{both, pick, never, taken-rule, program-exact}
 use Rattle.masking.specs.Translation.{Scratch, scratch, block, blocks, laidOut, translated, wordsFor, program}
 use Rattle.masking.specs.Foretold.{Accepted}
 use Rattle.masking.specs.Machine.{withStep, stepsOf}
 use Rattle.masking.specs.Counts.{allOf}
-use Rattle.masking.proofs.emitted.Tests.{both, All, all-append, all-take, all-tested}
+use Rattle.masking.proofs.emitted.Tests.{All, all-append, all-take, all-tested}
 use Rattle.masking.proofs.emitted.Good.{blocks-good, laid-within}
 
 -- ---- one word
-
--- a row's test, or the rows below it
-pick : {G : Type 0} (c : Bool) (x r : Decoded) (s : Step) → (c ≡ true → x ≡ Good s → G) → (r ≡ Good s → G) → either c x r ≡ Good s → G
-pick true x r s f g h = f refl h
-pick false x r s f g h = g h
-
-never : {G : Type 0} (s : Step) → Bad ≡ Good s → G
-never s e = let z : _≡_ {A = ℕ} 0 1 = cc in absurd (omega arith)
 
 -- the step's kind is that of the row
 row-kind : (k d a b : ℕ) (s : Step) → row k d a b ≡ Good s → k ≡ kindNumber s
@@ -67,9 +59,6 @@ unfolding named
 taken-kind rule w s h =
     pick (eqb (bit27 w) 0) (row (kindOf w) (fieldD w) (fieldA w) (fieldB w)) Bad s (λ t. row-kind (kindOf w) (fieldD w) (fieldA w) (fieldB w) s) (never s)
     (held-good rule (named w) s h .0)
-
-pub taken-rule : (rule : Step → Bool) (w : ℕ) (s : Step) → taken rule w ≡ Good s → T (rule s)
-taken-rule rule w s h = held-good rule (named w) s h .1
 
 -- ---- a plan without a bad word
 
@@ -139,11 +128,6 @@ pub program-append : (n : ℕ) (plan rest : List ℕ) → program n (plan ++ res
 program-append n [] rest = refl
 program-append n (w ∷ ws) rest =
     ap (λ (r : List ℕ). wordsFor n (planStep w) ++ r) (program-append n ws rest) ∙ sym (append-assoc (wordsFor n (planStep w)) (program n ws) (program n rest))
-
-pub plan-steps-append : (plan rest : List ℕ) → planSteps (plan ++ rest) ≡ planSteps plan ++ planSteps rest
-plan-steps-append [] rest = refl
-plan-steps-append (w ∷ ws) rest =
-    ap (λ (r : List Step). stepsFor (planStep w) ++ r) (plan-steps-append ws rest) ∙ sym (append-assoc (stepsFor (planStep w)) (planSteps ws) (planSteps rest))
 
 -- the share program's words are those of the share steps
 words-for : (n : ℕ) (d : Decoded) → wordsFor n d ≡ map wordOf (blocks scratch n (stepsFor d))

@@ -1,4 +1,4 @@
--- Tests joined by `and` and `or`, and a test over a list of steps. Assumes nothing.
+-- Tests joined by `and` and `or`, and a test over a list of steps. Rests on word's Together for `and`.
 use mathlib.Core.Bool.{Bool, true, false, _&&_, _||_}
 use mathlib.Core.List.{List, [], _∷_, _++_, map}
 use Prim.Native.Nat.{ℕ, zero, suc, _+_, _≤_, _<_}
@@ -6,12 +6,9 @@ use native.Mathlib.Omega.{arith}
 use lib.Dec.{T}
 use lib.ListN.{take}
 use Rattle.word.specs.declared.step.Step.{Step}
+use Rattle.word.proofs.Together.{both}
 use Rattle.masking.specs.Translation.{upFrom}
 use Rattle.masking.specs.Counts.{allOf}
-
-pub both : (p q : Bool) → T (p && q) → T p × T q
-both true q h = (tt, h)
-both false q h = absurd h
 
 pub join : (p q : Bool) → T p → T q → T (p && q)
 join true q a b = b

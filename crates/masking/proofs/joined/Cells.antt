@@ -1,5 +1,5 @@
 -- Cells as a function: what a list of steps does to a list of cells is what it does to that function (`exec-on`), and cells stay
--- words, as many as they were, through any list of words (`exec-words`). Rests on the bounds of word operations.
+-- words where words are set (`set-words`). Rests on the bounds of word operations.
 use mathlib.Core.Path.{_≡_, refl, sym, ap, _∙_, subst, fun-ext}
 use mathlib.Core.Bool.{Bool, true, false, not, cond, _&&_}
 use mathlib.Core.List.{List, [], _∷_}
@@ -13,13 +13,11 @@ use borrow.Author.Tests.{eq-eqb, ne-eqb}
 use Rattle.bits.proofs.Bound.{xor-lt, and-lt, not-lt, shl-lt, shr-lt, spread-lt, add-lt}
 use Rattle.word.specs.declared.step.Step.{Step}
 use Rattle.word.specs.declared.step.Step.the-variants.{Const, Xor, And, Not, Shl, Shr, Spread, Add, Rand}
-use Rattle.word.specs.declared.step.Decoded.{Decoded}
-use Rattle.word.specs.declared.step.Decoded.the-variants.{Good, Bad}
-use Rattle.word.specs.Word.{within, kindNumber, inProgram, programStep}
+use Rattle.word.specs.Word.{within, kindNumber, inProgram}
 use Rattle.word.specs.Table.{dest, becomes}
-use Rattle.masking.specs.Machine.{takes, withStep, stepsOf, execStep, execSteps, exec, Words}
-use Rattle.masking.proofs.emitted.Tests.{both, All}
-use Rattle.masking.proofs.emitted.Steps.{taken-rule}
+use Rattle.masking.specs.Machine.{takes, execStep, execSteps, Words}
+use Rattle.masking.proofs.emitted.Tests.{All}
+use Rattle.word.proofs.Together.{both}
 
 abbrev pub Cells : Type 0
 Cells = ℕ → ℕ
@@ -145,25 +143,3 @@ set-words l d v h lv = by (decLt d (length l))
 
 pub drop-words : (tape : List ℕ) → Words tape → (m : ℕ) → Words (drop m tape)
 drop-words tape h m k = rw (getD-drop m tape k 0) (h (m + k))
-
--- cells stay words, as many as they were
-pub steps-words : (ss : List Step) → All (λ s. T (inProgram s)) ss → (tape l : List ℕ) → Words tape → Words l
-    → (length (execSteps ss tape l) ≡ length l) × Words (execSteps ss tape l)
-unfolding execStep
-steps-words [] h tape l wt w = (refl, w)
-steps-words (s ∷ ss) h tape l wt w =
-    let r = steps-words ss (h .1) (drop (takes s) tape) (execStep s tape l) (drop-words tape wt (takes s))
-    (set-words l (dest s) _ w (program-fits s (h .0) (at l) (getD tape 0 0) w (wt 0))) in
-    (r .0 ∙ length-set l (dest s) _, r .1)
-
--- words taken apart are steps of a share program
-pub steps-good : (words : List ℕ) → All (λ s. T (inProgram s)) (stepsOf words)
-steps-good [] = tt
-steps-good (w ∷ ws) = by (programStep w) refl (steps-good ws)
-  where
-    by : (d : Decoded) → programStep w ≡ d → All (λ s. T (inProgram s)) (stepsOf ws) → All (λ s. T (inProgram s)) (withStep d (stepsOf ws))
-    by (Good s) e h = (taken-rule inProgram w s e, h)
-    by Bad e h = h
-
-pub exec-words : (words tape l : List ℕ) → Words tape → Words l → (length (exec words tape l) ≡ length l) × Words (exec words tape l)
-exec-words words = steps-words (stepsOf words) (steps-good words)

@@ -16,7 +16,7 @@ use Rattle.word.specs.Word.{within}
 use Rattle.word.specs.Table.{dest, becomes}
 use Rattle.masking.specs.Translation.{upFrom, shares, shareCell, firstOther, Scratch, block}
 use Rattle.masking.specs.Unsplit.{xorOver}
-use Rattle.masking.proofs.emitted.Tests.{both}
+use Rattle.word.proofs.Together.{both}
 use Rattle.masking.proofs.emitted.Places.{Places}
 use Rattle.masking.proofs.emitted.Ranges.{one, two}
 use Rattle.masking.proofs.joined.Cells.{Cells, upd, upd-same, upd-other, WordCells, stepOn}

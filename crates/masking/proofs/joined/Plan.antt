@@ -2,8 +2,8 @@
 -- over any tape. Rests on JoinedBlocks (share steps join), JoinedAdd (the adder) and Steps (words as steps).
 use mathlib.Core.Path.{_≡_, refl, sym, ap, _∙_}
 use mathlib.Core.Bool.{not, _&&_}
-use mathlib.Core.List.{List, [], _∷_, map}
-use Prim.Native.Nat.{ℕ, zero, suc, _+_, _<_, _≤_}
+use mathlib.Core.List.{List, [], _∷_}
+use Prim.Native.Nat.{ℕ, _<_, _≤_}
 use native.Mathlib.Omega.{arith}
 use lib.Dec.{T, eqb, ltb, ltb→lt}
 use lib.ListN.{length, getD, take, length-set}
@@ -13,11 +13,13 @@ use Rattle.word.specs.Word.{within, kindNumber, inPlan}
 use Rattle.word.specs.Layout.{cell}
 use Rattle.word.specs.Table.{dest, becomes}
 use Rattle.plain.specs.Machine.{stepped, run}
-use Rattle.masking.specs.Translation.{upFrom, shareCell, scratch, blocks, laidOut, program}
+use Rattle.masking.specs.Translation.{shareCell, scratch, blocks, laidOut, program}
 use Rattle.masking.specs.Foretold.{Accepted}
 use Rattle.masking.specs.Machine.{exec, execSteps, Words}
 use Rattle.masking.specs.Unsplit.{joined, unsplit}
-use Rattle.masking.proofs.emitted.Tests.{both, All}
+use Rattle.word.proofs.Together.{both}
+use Rattle.masking.proofs.emitted.Rising.{getD-from}
+use Rattle.masking.proofs.emitted.Tests.{All}
 use Rattle.masking.proofs.emitted.Places.{share-register, Places, places}
 use Rattle.masking.proofs.emitted.Good.{laid-within}
 use Rattle.masking.proofs.emitted.Steps.{PlanWords, plan-words, planSteps, blocks-append, take-accepted, program-steps, plan-good}
@@ -99,12 +101,6 @@ module _ (n : ℕ) (least : 2 ≤ n) (most : n ≤ 8) where
       (step-joins (h .0 .step) (h .0 .inRange) l size c j) (λ e q. plan-joins ws (h .1) (stepped (h .0 .step) l) (stepped-length (h .0 .step) l size) e q))
 
 -- ---- lists of cells
-
--- an entry of a list over numbers
-getD-from : (f : ℕ → ℕ) (s c i : ℕ) → i < c → getD (map f (upFrom s c)) i 0 ≡ f (s + i)
-getD-from f s zero i h = absurd (omega arith)
-getD-from f s (suc c) zero h = ap f (omega arith)
-getD-from f s (suc c) (suc i) h = getD-from f (suc s) c i (omega arith) ∙ ap f (omega arith)
 
 module _ (n : ℕ) (l : List ℕ) (r : ℕ) (lr : r < 32) where
   joined-of : joined n l r ≡ joinOf n (at l) r

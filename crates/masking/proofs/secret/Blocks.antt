@@ -12,7 +12,7 @@ use Rattle.word.specs.declared.step.Step.{Step}
 use Rattle.word.specs.declared.step.Step.the-variants.{Const, Xor, And, Not, Shl, Shr, Spread, Add, Rand}
 use Rattle.word.specs.Table.{dest}
 use Rattle.masking.specs.Translation.{Scratch, shareCell, shares, firstOther, andBlock, block, blocks}
-use Rattle.masking.proofs.emitted.Tests.{both}
+use Rattle.word.proofs.Together.{both}
 use Rattle.masking.proofs.emitted.Places.{Places}
 use Rattle.masking.proofs.joined.Cells.{Cells}
 use Rattle.masking.proofs.secret.Acts.{write, act, acts}

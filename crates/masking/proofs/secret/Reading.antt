@@ -13,7 +13,8 @@ use Rattle.word.specs.declared.step.Step.the-variants.{Const, Xor, And, Not, Sh
 use Rattle.word.specs.Word.{inPlan}
 use Rattle.word.specs.Table.{dest}
 use Rattle.masking.specs.Translation.{adding, laidOut}
-use Rattle.masking.proofs.emitted.Tests.{both, join, or-right}
+use Rattle.word.proofs.Together.{both}
+use Rattle.masking.proofs.emitted.Tests.{join, or-right}
 use Rattle.masking.proofs.secret.Meeting.{In}
 use Rattle.masking.proofs.secret.Registers.{adds}
 

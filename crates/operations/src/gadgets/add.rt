@@ -1,15 +1,27 @@
-// ADD: the Kogge-Stone adder on helper registers H, G, P and T, here h, g, p and s. Share i of the first is cell 288 + 8i.
+// ADD: the Kogge-Stone adder on helper registers H, G, P and T, here h, g, p and s.
 ghost use mathlib.Core.Path.{_≡_};
 ghost use Prim.Native.Nat.{_≤_, _<_};
 ghost use lib.ListN.{length};
 ghost use Rattle.masking.specs.Translation as translation;
-ghost use Rattle.masking.specs.Translation.{blocks, scratch};
 ghost use Rattle.operations.specs.Gadgets as gadgets;
+ghost use Rattle.masking.specs.Translation.{blocks, scratch};
 ghost use Rattle.operations.specs.Gadgets.{Enough, Ran};
 use crate::gadgets::and::and_shares;
 use crate::gadgets::once::Op;
 use crate::gadgets::once::Place;
 use crate::gadgets::once::each;
+use word::step_word::StepWord;
+
+// The helper registers: the cells of their share 0, and how far apart a helper's shares are.
+const H: usize = StepWord::HELPERS as usize;
+
+const G: usize = H + 1;
+
+const P: usize = H + 2;
+
+const T: usize = H + 3;
+
+const STRIDE: usize = 8;
 
 // T = G SHL k; T = P AND T; G = G XOR T.
 fn generated(k: u32, n: usize, tape: &[u64], t: usize, cells: &mut [u64]) -> usize
@@ -18,16 +30,16 @@ fn generated(k: u32, n: usize, tape: &[u64], t: usize, cells: &mut [u64]) -> usi
     ensures { λ r. ⌜ Ran (blocks scratch n (translation.generated k)) (now (tape .entry)) t (now (cells .entry)) (now (cells .exit)) r ⌝ }
 {
     let g = Place {
-        base: 289,
-        stride: 8,
+        base: G,
+        stride: STRIDE,
     };
     let p = Place {
-        base: 290,
-        stride: 8,
+        base: P,
+        stride: STRIDE,
     };
     let s = Place {
-        base: 291,
-        stride: 8,
+        base: T,
+        stride: STRIDE,
     };
     each(Op::Shl(k), s, g, g, n, cells);
     let t = and_shares(s, p, s, n, tape, t, cells);
@@ -42,12 +54,12 @@ fn passed(k: u32, n: usize, tape: &[u64], t: usize, cells: &mut [u64]) -> usize
     ensures { λ r. ⌜ Ran (blocks scratch n (translation.passed k)) (now (tape .entry)) t (now (cells .entry)) (now (cells .exit)) r ⌝ }
 {
     let p = Place {
-        base: 290,
-        stride: 8,
+        base: P,
+        stride: STRIDE,
     };
     let s = Place {
-        base: 291,
-        stride: 8,
+        base: T,
+        stride: STRIDE,
     };
     each(Op::Shl(k), s, p, p, n, cells);
     and_shares(p, p, s, n, tape, t, cells)
@@ -56,8 +68,8 @@ fn passed(k: u32, n: usize, tape: &[u64], t: usize, cells: &mut [u64]) -> usize
 // A round that is not the last.
 fn round(k: u32, n: usize, tape: &[u64], t: usize, cells: &mut [u64]) -> usize
     requires { ⌜ (k < 64) × (n ≤ 8) × (length (now cells) ≡ 512) ⌝ }
-    requires { ⌜ Enough (now tape) t (blocks scratch n (gadgets.round k)) ⌝ }
-    ensures { λ r. ⌜ Ran (blocks scratch n (gadgets.round k)) (now (tape .entry)) t (now (cells .entry)) (now (cells .exit)) r ⌝ }
+    requires { ⌜ Enough (now tape) t (blocks scratch n (translation.round k)) ⌝ }
+    ensures { λ r. ⌜ Ran (blocks scratch n (translation.round k)) (now (tape .entry)) t (now (cells .entry)) (now (cells .exit)) r ⌝ }
 {
     let t = generated(k, n, tape, t, cells);
     passed(k, n, tape, t, cells)
@@ -65,8 +77,8 @@ fn round(k: u32, n: usize, tape: &[u64], t: usize, cells: &mut [u64]) -> usize
 
 fn rounds(n: usize, tape: &[u64], t: usize, cells: &mut [u64]) -> usize
     requires { ⌜ (n ≤ 8) × (length (now cells) ≡ 512) ⌝ }
-    requires { ⌜ Enough (now tape) t (blocks scratch n gadgets.rounds) ⌝ }
-    ensures { λ r. ⌜ Ran (blocks scratch n gadgets.rounds) (now (tape .entry)) t (now (cells .entry)) (now (cells .exit)) r ⌝ }
+    requires { ⌜ Enough (now tape) t (blocks scratch n translation.rounds) ⌝ }
+    ensures { λ r. ⌜ Ran (blocks scratch n translation.rounds) (now (tape .entry)) t (now (cells .entry)) (now (cells .exit)) r ⌝ }
 {
     let t = round(1, n, tape, t, cells);
     let t = round(2, n, tape, t, cells);
@@ -91,20 +103,20 @@ pub fn add_shares(
     ensures { λ r. ⌜ Ran (blocks scratch n (translation.adding (d .base) (a .base) (b .base))) (now (tape .entry)) t (now (cells .entry)) (now (cells .exit)) r ⌝ }
 {
     let h = Place {
-        base: 288,
-        stride: 8,
+        base: H,
+        stride: STRIDE,
     };
     let g = Place {
-        base: 289,
-        stride: 8,
+        base: G,
+        stride: STRIDE,
     };
     let p = Place {
-        base: 290,
-        stride: 8,
+        base: P,
+        stride: STRIDE,
     };
     let s = Place {
-        base: 291,
-        stride: 8,
+        base: T,
+        stride: STRIDE,
     };
     each(Op::Xor, h, a, b, n, cells);
     let t = and_shares(g, a, b, n, tape, t, cells);

@@ -6,9 +6,12 @@ ghost use Rattle.operations.specs.Gadgets.{Enough, Ran, Register, andSte
 use crate::gadgets::once::Op;
 use crate::gadgets::once::Place;
 use crate::gadgets::once::each;
+use crate::gadgets::pairs::Y;
+use crate::gadgets::pairs::Z;
 use crate::gadgets::pairs::cross;
 use crate::gadgets::pairs::refresh;
 
+// d = a AND b, from place t of the tape on; the answer is the next place.
 pub fn and_shares(
     d: Place,
     a: Place,
@@ -22,14 +25,8 @@ pub fn and_shares(
     requires { ⌜ Enough (now tape) t (andSteps n (at d) (at a) (at b)) ⌝ }
     ensures { λ r. ⌜ Ran (andSteps n (at d) (at a) (at b)) (now (tape .entry)) t (now (cells .entry)) (now (cells .exit)) r ⌝ }
 {
-    let y = Place {
-        base: 256,
-        stride: 1,
-    };
-    let z = Place {
-        base: 264,
-        stride: 1,
-    };
+    let y = Place { base: Y, stride: 1 };
+    let z = Place { base: Z, stride: 1 };
     each(Op::Shl(0), y, b, b, n, cells);
     let t = refresh(n, tape, t, cells);
     each(Op::And, z, a, y, n, cells);

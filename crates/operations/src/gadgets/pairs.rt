@@ -5,15 +5,16 @@ ghost use lib.ListN.{length};
 ghost use Rattle.masking.specs.Translation.{pairs, pairsOf, refresh, scratch, shares, upFrom};
 ghost use Rattle.operations.specs.Gadgets.{Enough, Ran, Register, at, crossed, refreshed, crossedPair};
 use crate::gadgets::once::Place;
+use word::step_word::StepWord;
 
 // AND's scratch cells: y and z have one for each share.
-const Y: usize = 256;
+pub const Y: usize = StepWord::Y as usize;
 
-const Z: usize = 264;
+pub const Z: usize = StepWord::Z as usize;
 
-const T: usize = 272;
+const T: usize = StepWord::T as usize;
 
-const U: usize = 273;
+const U: usize = StepWord::U as usize;
 
 // A fresh word r into shares i and j of y.
 fn refresh_pair(i: usize, j: usize, r: u64, cells: &mut [u64])

@@ -12,6 +12,7 @@ use crate::gadgets::and::and_shares;
 use crate::gadgets::once::Op;
 use crate::gadgets::once::Place;
 use crate::gadgets::once::each;
+use word::step_word::StepWord;
 
 // A place's shares from 1 on.
 fn others(p: Place) -> Place
@@ -44,28 +45,30 @@ fn not_shares(d: Place, a: Place, n: usize, cells: &mut [u64])
     each(Op::Shl(0), others(d), f, f, n - 1, cells);
 }
 
+// A register's shares.
 fn register(r: u32) -> Place
     ensures { λ p. ⌜ (p .base ≡ r) × (p .stride ≡ 32) ⌝ }
 {
     Place {
         base: r as usize,
-        stride: 32,
+        stride: StepWord::REGISTERS,
     }
 }
 
+// A good word's translation done on the cells, from place t of the tape on; the answer is the next place.
 pub fn word_done(w: u32, n: usize, tape: &[u64], t: usize, cells: &mut [u64]) -> usize
     requires { ⌜ GoodWord w × (2 ≤ n) × (n ≤ 8) × (length (now cells) ≡ 512) ⌝ }
     requires { ⌜ Enough (now tape) t (stepsOf (wordsFor n (planStep w))) ⌝ }
     ensures { λ r. ⌜ Ran (stepsOf (wordsFor n (planStep w))) (now (tape .entry)) t (now (cells .entry)) (now (cells .exit)) r ⌝ }
 {
-    let kind = w >> 28;
-    let d = register((w >> 18) % 512);
-    let f = (w >> 9) % 512;
+    let kind = w >> StepWord::KIND_AT;
+    let d = register((w >> StepWord::D_AT) % StepWord::FIELD);
+    let f = (w >> StepWord::A_AT) % StepWord::FIELD;
     let a = register(f);
-    let g = w % 512;
+    let g = w % StepWord::FIELD;
     let b = register(g);
     match kind {
-        1 => const_shares(d, 512 * f + g, n, cells),
+        1 => const_shares(d, StepWord::FIELD * f + g, n, cells),
         2 => each(Op::Xor, d, a, b, n, cells),
         3 => return and_shares(d, a, b, n, tape, t, cells),
         4 => not_shares(d, a, n, cells),

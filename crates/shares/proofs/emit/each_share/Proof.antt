@@ -6,7 +6,7 @@ use native.Mathlib.Omega.{arith}
 use Rattle.masking.specs.Translation.{upFrom, shares}
 use Rattle.shares.specs.Emission.{onceStep}
 use Rattle.shares.proofs.Emission.{Left, start, renamed, part, room, whole}
-use Rattle.shares.proofs.Rising.{rising, risen, from-first}
+use Rattle.masking.proofs.emitted.Rising.{rising, risen, from-first}
 use Rattle.shares.proofs.emit.each_share.Statement.{statement}
 use Rattle.shares.proofs.emit.each_share.Tie as tie
 

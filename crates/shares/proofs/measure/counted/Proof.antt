@@ -8,7 +8,8 @@ use borrow.Author.Needs.{needs}
 use Rattle.word.specs.Answers.{done}
 use Rattle.word.specs.Word.{kindOf}
 use Rattle.masking.specs.Foretold.{foretoldWords, foretoldTape}
-use Rattle.shares.proofs.Counted.{Summed, summed, summed-on, length-le, tape-le}
+use Rattle.word.proofs.Small.{length-le, tape-le}
+use Rattle.shares.proofs.Counted.{Summed, summed, summed-on}
 use Rattle.shares.proofs.measure.counted.Statement.{statement}
 use Rattle.shares.proofs.measure.counted.Tie as tie
 

@@ -6,7 +6,8 @@ use native.Mathlib.Omega.{arith}
 use Rattle.masking.specs.Translation.{upFrom, shares, pairs, pairsOf}
 use Rattle.shares.specs.Emission.{pairSteps}
 use Rattle.shares.proofs.Emission.{Left, start, renamed, part, room, whole}
-use Rattle.shares.proofs.Rising.{rising, risen, from-first, pair-append, pair-none}
+use Rattle.masking.proofs.emitted.Rising.{rising, risen, from-first}
+use Rattle.shares.proofs.Rising.{pair-append, pair-none}
 use Rattle.shares.proofs.pairs.all_pairs.Statement.{statement}
 use Rattle.shares.proofs.pairs.all_pairs.Tie as tie
 

@@ -7,7 +7,7 @@ use denote.Ref.{now}
 use borrow.Author.Needs.{needs}
 use Rattle.word.specs.declared.step.Decoded.the-variants.{Good}
 use Rattle.word.specs.Word.{planStep, wordOf, inPlan}
-use Rattle.masking.proofs.emitted.Steps.{taken-rule}
+use Rattle.word.proofs.Together.{taken-rule}
 use Rattle.masking.specs.Translation.{scratch, blocks, laidOut}
 use Rattle.shares.proofs.Program.{good-words, bad-words}
 use Rattle.shares.proofs.Steps.{plan-registers}

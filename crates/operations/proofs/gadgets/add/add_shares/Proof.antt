@@ -5,10 +5,9 @@ use Prim.Native.Nat.{_+_, _-_}
 use native.Mathlib.Omega.{arith}
 use denote.Ref.{now}
 use borrow.Author.Needs.{needs}
-use Rattle.masking.specs.Translation.{scratch, blocks, block, adding, rH, rG, rP, rT}
+use Rattle.masking.specs.Translation.{scratch, blocks, block, adding, rH, rG, rP, rT, rounds}
 use Rattle.operations.proofs.Running.{start, part, enough, whole, blocks-part, blocks-enough}
 use Rattle.operations.specs.declared.gadgets.once.Op.the-variants as op
-use Rattle.operations.specs.Gadgets.{rounds}
 use Rattle.word.specs.declared.step.Step.the-variants.{Xor, And, Shl}
 use Rattle.operations.proofs.Blocks.{helper-named, plan-named, once-ran, and-ran, and-enough}
 use Rattle.operations.proofs.gadgets.add.add_shares.Statement.{statement}

@@ -3,9 +3,8 @@ use mathlib.Core.Path.{_∙_}
 use Prim.Native.Nat.{_-_}
 use denote.Ref.{now}
 use borrow.Author.Needs.{needs}
-use Rattle.masking.specs.Translation.{scratch, blocks, generated, passed}
+use Rattle.masking.specs.Translation.{scratch, blocks, generated, passed, round}
 use Rattle.operations.proofs.Running.{start, last, last-enough, blocks-part, blocks-enough}
-use Rattle.operations.specs.Gadgets.{round}
 use Rattle.operations.proofs.gadgets.add.round.Statement.{statement}
 use Rattle.operations.proofs.gadgets.add.round.Tie as tie
 

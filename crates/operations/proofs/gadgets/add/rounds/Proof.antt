@@ -5,9 +5,8 @@ use Prim.Native.Nat.{_+_, _-_}
 use native.Mathlib.Omega.{arith}
 use denote.Ref.{now}
 use borrow.Author.Needs.{needs}
-use Rattle.masking.specs.Translation.{scratch, blocks, generated}
+use Rattle.masking.specs.Translation.{scratch, blocks, generated, round, rounds}
 use Rattle.operations.proofs.Running.{start, last, last-enough, blocks-part, blocks-enough}
-use Rattle.operations.specs.Gadgets.{round, rounds}
 use Rattle.operations.proofs.gadgets.add.rounds.Statement.{statement}
 use Rattle.operations.proofs.gadgets.add.rounds.Tie as tie
 

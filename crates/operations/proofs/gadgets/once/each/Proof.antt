@@ -8,7 +8,8 @@ use lib.ListN.{length, getD, set, length-set}
 use Rattle.masking.specs.Translation.{shares, upFrom}
 use Rattle.masking.specs.Machine.{execSteps}
 use Rattle.operations.specs.Gadgets.{at, onceStep, valueOf}
-use Rattle.operations.proofs.Once.{risen, from-first, at-first, at-next, at-inside, at-fits, once-turn}
+use Rattle.masking.proofs.emitted.Rising.{risen, from-first}
+use Rattle.operations.proofs.Once.{at-first, at-next, at-inside, at-fits, once-turn}
 use Rattle.operations.proofs.gadgets.once.each.Statement.{statement}
 use Rattle.operations.proofs.gadgets.once.each.Tie as tie
 
