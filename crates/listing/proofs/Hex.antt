@@ -1,4 +1,4 @@
--- The lines of share words: nine bytes each, one after the other. Assumes nothing.
+-- The lines of share words: nine bytes each, one after the other. Rests on Placed.
 use mathlib.Core.Path.{_≡_, refl, sym, ap, _∙_}
 use mathlib.Core.List.{List, [], _∷_, _++_, append-assoc}
 use Prim.Native.Nat.{ℕ, _+_, _*_, _≤_, _<_}

@@ -1,4 +1,4 @@
--- The input's plan words: where each stands, and how many there are. Assumes nothing.
+-- The input's plan words: where each stands, and how many there are. Rests on Placed.
 use mathlib.Core.Path.{_≡_, refl, sym, ap, ap₂, _∙_}
 use mathlib.Core.List.{List, [], _∷_}
 use Prim.Native.Nat.{ℕ, _+_, _-_, _*_, _/_, _≤_, _<_}

@@ -1,4 +1,4 @@
--- Demand 3, assembled: lists of share runs (InARow), joined results (Joined), counts (Counts) and secrecy (SecretRuns).
+-- Demand 3, assembled: lists of share runs (InARow), joined results (joined.Plan), counts (Counts) and secrecy (secret.SecretRuns).
 use mathlib.Core.Path.{_≡_, refl, sym, ap, ap₂, _∙_}
 use mathlib.Core.List.{List}
 use Prim.Native.Nat.{ℕ, _+_, _-_, _≤_}

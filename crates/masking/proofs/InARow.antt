@@ -1,5 +1,5 @@
 -- Share runs in a row: what a list of runs does to cells and places, run by run, whatever the tape holds.
--- Rests on Counts (the program is good and not too long) and Steps.
+-- Rests on Counts for the tape words of steps in a row.
 use mathlib.Core.Path.{_≡_, refl, sym, ap, ap₂, _∙_, subst}
 use mathlib.Core.Bool.{not}
 use mathlib.Core.List.{List, [], _∷_, _++_}

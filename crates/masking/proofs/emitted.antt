@@ -1,5 +1,5 @@
--- What a translation emits: tests over steps (Tests), numbers in a row (Rising), pairs of shares (Pairs), where cells lie (Places), what holds of every share step
--- (Ranges, Good), words as steps (Steps), and the counts (Counts).
+-- What a translation emits: tests over steps (Tests), numbers in a row (Rising), pairs of shares (Pairs), where cells lie
+-- (Places), what holds of every share step (Ranges, Good), words as steps (Steps), and the counts (Counts).
 pub mod Tests
 pub mod Rising
 pub mod Pairs

@@ -1,4 +1,4 @@
--- What holds where an operation's answer is done. Assumes nothing.
+-- What holds where an operation's answer is done. Rests on word's Small and Passed.
 use mathlib.Core.Path.{_≡_, refl, sym, ap, _∙_}
 use mathlib.Core.Bool.{Bool, true, false, not, _&&_}
 use mathlib.Core.List.{List}

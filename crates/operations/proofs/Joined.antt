@@ -1,5 +1,5 @@
 -- The operations' results: over a tape as long as foretold a whole share run is done, and its register 2 joins to the operation on the joined
--- operands. One lemma over any plan that computes an operation. Rests on Placed, masking's joined results and demand 3, and the plans' theorems.
+-- operands. One lemma over any plan that computes an operation. Rests on Placed, Plans, masking's joined results, and the plans' theorems.
 use mathlib.Core.Path.{_≡_, refl, sym, ap, ap₂, _∙_}
 use mathlib.Core.List.{List, [], _∷_, map}
 use Prim.Native.Nat.{ℕ, zero, suc, _^_, _≤_, _<_}

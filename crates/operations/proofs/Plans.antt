@@ -22,7 +22,7 @@ use Rattle.masking.specs.Demand3.{EachRun}
 use Rattle.masking.proofs.InARow.{each-run, steps-append}
 use Rattle.operations.specs.Shares.{placed, finished}
 use Rattle.operations.specs.Masked.{WholeRun, RunsWhole}
-use Rattle.operations.specs.Gadgets.{GoodPlan, GoodWord, isGood}
+use Rattle.operations.specs.Gadgets.{GoodPlan, GoodPlanWord, IsGood}
 use Rattle.operations.proofs.Filling.{placed-size}
 
 -- the share steps of a plan's words from i on
@@ -33,10 +33,10 @@ plan-turn n plan i h =
     ∙ steps-append (wordsFor n (planStep (getD plan i 0))) (program n (drop (i + 1) plan))
 
 -- each of its words is good
-pub plan-word : (plan : List ℕ) → firstBad planStep plan ≡ length plan → (i : ℕ) → i < length plan → GoodWord (getD plan i 0)
+pub plan-word : (plan : List ℕ) → firstBad planStep plan ≡ length plan → (i : ℕ) → i < length plan → GoodPlanWord (getD plan i 0)
 plan-word plan e i h = by (planStep (getD plan i 0)) (first-bad planStep plan .good i (omega arith))
   where
-    by : (d : Decoded) → (s : Step) × (d ≡ Good s) → isGood d
+    by : (d : Decoded) → (s : Step) × (d ≡ Good s) → IsGood d
     by (Good s) q = tt
     by Bad q = let z : _≡_ {A = ℕ} 0 1 = cc (q .1) in absurd (omega arith)
 

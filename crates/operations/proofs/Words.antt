@@ -18,7 +18,7 @@ use Rattle.masking.specs.Machine.{randsOf, stepsOf}
 use Rattle.word.proofs.Together.{taken-rule, both}
 use Rattle.masking.proofs.emitted.Steps.{taken-kind, steps-of-words}
 use Rattle.masking.proofs.emitted.Counts.{step-counts}
-use Rattle.operations.specs.Gadgets.{Enough, GoodWord, Ran, Still, isGood}
+use Rattle.operations.specs.Gadgets.{Enough, GoodPlanWord, Ran, Still, IsGood}
 use Rattle.operations.proofs.Running.{still-ran}
 
 -- ---- ranges
@@ -33,16 +33,16 @@ pub record Word (w : ℕ) (s : Step) : Type 0 where
   pub apart : planStep w ≡ Good s
   pub inRange : T (inPlan s)
 
-by-row : (t q : Bool) (r : Decoded) (s : Step) → isGood (held inPlan (either t r Bad)) → r ≡ either q (Good s) Bad → (held inPlan (either t r Bad) ≡ Good s) × T (inPlan s)
+by-row : (t q : Bool) (r : Decoded) (s : Step) → IsGood (held inPlan (either t r Bad)) → r ≡ either q (Good s) Bad → (held inPlan (either t r Bad) ≡ Good s) × T (inPlan s)
 by-row false q r s h e = absurd h
-by-row true false r s h e = absurd (subst (λ (d : Decoded). isGood (held inPlan d)) e h)
-by-row true true r s h e = let k = by (inPlan s) (subst (λ (d : Decoded). isGood (held inPlan d)) e h) in (ap (held inPlan) e ∙ k .0, k .1)
+by-row true false r s h e = absurd (subst (λ (d : Decoded). IsGood (held inPlan d)) e h)
+by-row true true r s h e = let k = by (inPlan s) (subst (λ (d : Decoded). IsGood (held inPlan d)) e h) in (ap (held inPlan) e ∙ k .0, k .1)
   where
-    by : (p : Bool) → isGood (either p (Good s) Bad) → (either p (Good s) Bad ≡ Good s) × T p
+    by : (p : Bool) → IsGood (either p (Good s) Bad) → (either p (Good s) Bad ≡ Good s) × T p
     by true h = (refl, tt)
     by false h = absurd h
 
-module _ (w : ℕ) (good : GoodWord w) where
+module _ (w : ℕ) (good : GoodPlanWord w) where
   abbrev d : ℕ
   d = fieldD w
 
@@ -101,7 +101,7 @@ module _ (w : ℕ) (good : GoodWord w) where
       in-plan (Add d a b) h = (omega arith, omega arith)
       in-plan (Rand d) h = absurd h
 
-      by : (x : Decoded) → planStep w ≡ x → isGood x → (1 ≤ kindOf w) × (kindOf w ≤ 8)
+      by : (x : Decoded) → planStep w ≡ x → IsGood x → (1 ≤ kindOf w) × (kindOf w ≤ 8)
       by (Good s) e h = subst (λ (k : ℕ). (1 ≤ k) × (k ≤ 8)) (sym (taken-kind inPlan w s e)) (in-plan s (taken-rule inPlan w s e))
       by Bad e h = absurd h
 

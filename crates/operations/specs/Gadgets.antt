@@ -135,12 +135,12 @@ helperAt h = record { base = 288 + h; stride = 8 }
 -- ---- plan words
 
 -- a word that is not bad
-abbrev pub isGood : Decoded → Type 0
-isGood (Good s) = Unit {0}
-isGood Bad = ⊥
+abbrev pub IsGood : Decoded → Type 0
+IsGood (Good s) = Unit {0}
+IsGood Bad = ⊥
 
-abbrev pub GoodWord : ℕ → Type 0
-GoodWord w = isGood (planStep w)
+abbrev pub GoodPlanWord : ℕ → Type 0
+GoodPlanWord w = IsGood (planStep w)
 
 -- tape words for each pair of shares: 2 for each AND and 24 for each ADD
 abbrev pub wordPerPair : ℕ → ℕ

@@ -1,4 +1,4 @@
--- Writing in parts: from a list of steps to write at a place, parts are written one after the other until none is left. Assumes nothing.
+-- Writing in parts: from a list of steps to write at a place, parts are written one after the other until none is left. Rests on masking's law of `map` over `++`.
 use mathlib.Core.Path.{_≡_, refl, sym, ap, ap₂, _∙_}
 use mathlib.Core.List.{List, [], _∷_, _++_, map}
 use Prim.Native.Nat.{ℕ, suc, _+_}

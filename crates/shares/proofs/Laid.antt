@@ -6,15 +6,15 @@ use Rattle.word.specs.declared.step.Step.{Step}
 use Rattle.word.specs.declared.step.Step.the-variants.{Xor, And, Shl}
 use Rattle.masking.specs.Translation.{scratch, shares, pairs, andBlock, block, blocks, adding, generated, passed, round, rounds}
 use Rattle.masking.proofs.emitted.Steps.{blocks-append}
-use Rattle.shares.specs.declared.emit.Once.the-variants.{CopyIn, Square, CopyOut}
-use Rattle.shares.specs.declared.pairs.Pairing.the-variants.{Refresh, Products}
+use Rattle.shares.specs.declared.emit.Once.the-variants.{CopyIn, Diagonal, CopyOut}
+use Rattle.shares.specs.declared.pairs.EachPair.the-variants.{Refresh, Products}
 use Rattle.shares.specs.Emission.{onceStep, pairSteps}
 
 module _ (n : ℕ) where
   pub and-parts : (d a b : ℕ) → andBlock scratch n d a b ≡
       map (onceStep (CopyIn b)) (shares n)
       ++ (pairSteps Refresh (pairs (shares n))
-      ++ (map (onceStep (Square a)) (shares n)
+      ++ (map (onceStep (Diagonal a)) (shares n)
       ++ (pairSteps (Products a) (pairs (shares n))
       ++ map (onceStep (CopyOut d)) (shares n))))
   unfolding andBlock

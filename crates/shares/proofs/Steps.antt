@@ -1,4 +1,4 @@
--- Steps by kind: which are once per share, which are not, and what share 0 gets alone. Assumes nothing.
+-- Steps by kind: which are once per share, which are not, and what share 0 gets alone. Rests on word's Together and masking's Ranges.
 use mathlib.Core.Path.{_≡_, refl}
 use mathlib.Core.Bool.{Bool, _&&_}
 use mathlib.Core.List.{[], _∷_, map, append-nil}

@@ -10,9 +10,9 @@ use Rattle.word.specs.Word.{wordOf}
 use Rattle.word.specs.Layout.{cellY, cellZ}
 use Rattle.masking.specs.Translation.{Pair, firstOther, refresh, products, scratch, shareCell}
 use Rattle.shares.specs.declared.emit.Once.{Once}
-use Rattle.shares.specs.declared.emit.Once.the-variants.{Each, CopyIn, Square, CopyOut}
-use Rattle.shares.specs.declared.pairs.Pairing.{Pairing}
-use Rattle.shares.specs.declared.pairs.Pairing.the-variants.{Refresh, Products}
+use Rattle.shares.specs.declared.emit.Once.the-variants.{Each, CopyIn, Diagonal, CopyOut}
+use Rattle.shares.specs.declared.pairs.EachPair.{EachPair}
+use Rattle.shares.specs.declared.pairs.EachPair.the-variants.{Refresh, Products}
 
 -- the words of steps stand in `out` from place `at` on, and the next place is behind them
 pub record Emits (out : List ℕ) (at : ℕ) (ss : List Step) (after : List ℕ) (next : ℕ) : Type 0 where
@@ -39,7 +39,7 @@ shareStep (Rand d) i = Rand d
 abbrev pub onceStep : Once → ℕ → Step
 onceStep (Each s) i = shareStep s i
 onceStep (CopyIn b) i = Shl (cellY i) (shareCell i b) 0
-onceStep (Square a) i = And (cellZ i) (shareCell i a) (cellY i)
+onceStep (Diagonal a) i = And (cellZ i) (shareCell i a) (cellY i)
 onceStep (CopyOut d) i = Shl (shareCell i d) (cellZ i) 0
 
 -- the registers that a step names: the plan's 32, and the helpers from 32 on (below 40 is all that the cells' places need)
@@ -57,14 +57,14 @@ Registers (Rand d) = d < 40
 abbrev pub OnceRegisters : Once → Type 0
 OnceRegisters (Each s) = Registers s
 OnceRegisters (CopyIn b) = b < 40
-OnceRegisters (Square a) = a < 40
+OnceRegisters (Diagonal a) = a < 40
 OnceRegisters (CopyOut d) = d < 40
 
 -- what pairs get
-abbrev pub pairSteps : Pairing → List Pair → List Step
+abbrev pub pairSteps : EachPair → List Pair → List Step
 pairSteps Refresh ps = refresh scratch ps
 pairSteps (Products a) ps = products scratch a ps
 
-abbrev pub PairingRegisters : Pairing → Type 0
-PairingRegisters Refresh = Unit {0}
-PairingRegisters (Products a) = a < 40
+abbrev pub EachPairRegisters : EachPair → Type 0
+EachPairRegisters Refresh = Unit {0}
+EachPairRegisters (Products a) = a < 40

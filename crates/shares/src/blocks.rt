@@ -5,7 +5,7 @@ ghost use Rattle.masking.specs.Translation.{andBlock, scratch};
 ghost use Rattle.shares.specs.Emission.{Emits, Registers, Room};
 use crate::emit::Once;
 use crate::emit::each_share;
-use crate::pairs::Pairing;
+use crate::pairs::EachPair;
 use crate::pairs::all_pairs;
 use word::step::Step;
 
@@ -24,9 +24,9 @@ fn and_block(d: u16, a: u16, b: u16, n: u8, at: usize, out: &mut [u32]) -> usize
     ensures { λ r. ⌜ Emits (now (out .entry)) at (andBlock scratch n d a b) (now (out .exit)) r ⌝ }
 {
     let at = each_share(Once::CopyIn(b), n, at, out);
-    let at = all_pairs(Pairing::Refresh, n, at, out);
-    let at = each_share(Once::Square(a), n, at, out);
-    let at = all_pairs(Pairing::Products(a), n, at, out);
+    let at = all_pairs(EachPair::Refresh, n, at, out);
+    let at = each_share(Once::Diagonal(a), n, at, out);
+    let at = all_pairs(EachPair::Products(a), n, at, out);
     each_share(Once::CopyOut(d), n, at, out)
 }
 

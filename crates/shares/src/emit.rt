@@ -12,7 +12,7 @@ use word::step_word::StepWord;
 pub(crate) enum Once {
     Each(Step),
     CopyIn(u16),
-    Square(u16),
+    Diagonal(u16),
     CopyOut(u16),
 }
 
@@ -94,7 +94,7 @@ fn once_step(o: Once, i: u8) -> Step
             a: share_cell(i, b),
             b: 0,
         },
-        Once::Square(a) => Step::And {
+        Once::Diagonal(a) => Step::And {
             d: StepWord::z(i),
             a: share_cell(i, a),
             b: StepWord::y(i),

@@ -3,15 +3,15 @@ ghost use mathlib.Core.List.{[], _∷_};
 ghost use Prim.Native.Nat.{_+_, _-_, _<_};
 ghost use lib.ListN.{length};
 ghost use Rattle.masking.specs.Translation.{pairs, pairsOf, shares, upFrom};
-ghost use Rattle.shares.specs.Emission.{Emits, PairingRegisters, Room, pairSteps};
-ghost use Rattle.shares.specs.declared.pairs.Pairing.the-variants.{Refresh, Products};
+ghost use Rattle.shares.specs.Emission.{Emits, EachPairRegisters, Room, pairSteps};
+ghost use Rattle.shares.specs.declared.pairs.EachPair.the-variants.{Refresh, Products};
 use crate::emit::put;
 use crate::emit::share_cell;
 use word::step::Step;
 use word::step_word::StepWord;
 
 // What AND does for each pair: a fresh word into both shares of y, or the cross products with the shares of register a.
-pub(crate) enum Pairing {
+pub(crate) enum EachPair {
     Refresh,
     Products(u16),
 }
@@ -56,20 +56,20 @@ fn product_pair(a: u16, i: u8, j: u8, at: usize, out: &mut [u32]) -> usize
 }
 
 // Writes what the pair of shares i and j gets.
-fn one_pair(p: Pairing, i: u8, j: u8, at: usize, out: &mut [u32]) -> usize
-    requires { ⌜ PairingRegisters p ⌝ }
+fn one_pair(p: EachPair, i: u8, j: u8, at: usize, out: &mut [u32]) -> usize
+    requires { ⌜ EachPairRegisters p ⌝ }
     requires { ⌜ Room (now out) at (pairSteps p (record { lo = i; hi = j } ∷ [])) ⌝ }
     ensures { λ r. ⌜ Emits (now (out .entry)) at (pairSteps p (record { lo = i; hi = j } ∷ [])) (now (out .exit)) r ⌝ }
 {
     match p {
-        Pairing::Refresh => refresh_pair(i, j, at, out),
-        Pairing::Products(a) => product_pair(a, i, j, at, out),
+        EachPair::Refresh => refresh_pair(i, j, at, out),
+        EachPair::Products(a) => product_pair(a, i, j, at, out),
     }
 }
 
 // The pairs of share i with the shares above it.
-fn pairs_of(p: Pairing, i: u8, n: u8, at: usize, out: &mut [u32]) -> usize
-    requires { ⌜ PairingRegisters p ⌝ }
+fn pairs_of(p: EachPair, i: u8, n: u8, at: usize, out: &mut [u32]) -> usize
+    requires { ⌜ EachPairRegisters p ⌝ }
     requires { ⌜ i < n ⌝ }
     requires { ⌜ Room (now out) at (pairSteps p (pairsOf i (upFrom (i + 1) (n - (i + 1))))) ⌝ }
     ensures { λ r. ⌜ Emits (now (out .entry)) at (pairSteps p (pairsOf i (upFrom (i + 1) (n - (i + 1))))) (now (out .exit)) r ⌝ }
@@ -82,8 +82,8 @@ fn pairs_of(p: Pairing, i: u8, n: u8, at: usize, out: &mut [u32]) -> usize
 }
 
 // All pairs i < j, by i and then j.
-pub(crate) fn all_pairs(p: Pairing, n: u8, at: usize, out: &mut [u32]) -> usize
-    requires { ⌜ PairingRegisters p ⌝ }
+pub(crate) fn all_pairs(p: EachPair, n: u8, at: usize, out: &mut [u32]) -> usize
+    requires { ⌜ EachPairRegisters p ⌝ }
     requires { ⌜ Room (now out) at (pairSteps p (pairs (shares n))) ⌝ }
     ensures { λ r. ⌜ Emits (now (out .entry)) at (pairSteps p (pairs (shares n))) (now (out .exit)) r ⌝ }
 {

@@ -1,4 +1,4 @@
--- `drawn::fill` meets its contract.
+-- `drawn::fill` is safe and ends.
 use mathlib.Core.Path.{_≡_}
 use Prim.Native.Nat.{_-_, _≤_}
 use lib.ListN.{length}

@@ -1,5 +1,5 @@
 -- The joined result: after the share program of an accepted plan's first k words every register joins to what these words give unsplit,
--- over any tape. Rests on JoinedBlocks (share steps join), JoinedAdd (the adder) and Steps (words as steps).
+-- over any tape. Rests on Blocks (share steps join), Add (the adder) and emitted.Steps (words as steps).
 use mathlib.Core.Path.{_≡_, refl, sym, ap, _∙_}
 use mathlib.Core.Bool.{not, _&&_}
 use mathlib.Core.List.{List, [], _∷_}

@@ -19,7 +19,7 @@ use Rattle.masking.proofs.secret.Meeting.{share-lt}
 use Rattle.masking.proofs.secret.Sets.{has, has-left, has-right, count, count-then, outside}
 use Rattle.masking.proofs.secret.Assigned.{marked, asked-in, marked-count, marksB, refreshed-in, refresh-count, marksK, marksA, marksN, pairs-ask-in, products-count}
 use Rattle.masking.proofs.secret.Registers.{Agreed, adds}
-use Rattle.masking.proofs.secret.AndSecret.{copies, refreshed, squares, crossed, results, parts, after1, after2, after3, after4, and-wp}
+use Rattle.masking.proofs.secret.AndSecret.{copies, refreshed, diagonal, crossed, results, parts, after1, after2, after3, after4, and-wp}
 
 module _ (sc : Scratch) (n d a b : ℕ) (m : Marks) (S : List ℕ) where
   abbrev m1 : Marks
@@ -56,19 +56,19 @@ module _ (sc : Scratch) (n d a b : ℕ) (m : Marks) (S : List ℕ) where
   setN = setK ++ (setB ++ marksN (has setK) m3 (pairs (shares n)))
 
   and-count : count m (acts (andBlock sc n d a b))
-      ≡ count m (acts (copies sc n d a b)) + (count m1 (acts (refreshed sc n d a b)) + (count m2 (acts (squares sc n d a b)) + (count m3 (acts (crossed sc n d a b)) + count m4 (acts (results sc n d a b)))))
+      ≡ count m (acts (copies sc n d a b)) + (count m1 (acts (refreshed sc n d a b)) + (count m2 (acts (diagonal sc n d a b)) + (count m3 (acts (crossed sc n d a b)) + count m4 (acts (results sc n d a b)))))
   and-count =
       ap (λ (P : List Step). count m (acts P)) (parts sc n d a b)
       ∙ count-then m (copies sc n d a b) _ ∙ ap (λ (x : ℕ). count m (acts (copies sc n d a b)) + x)
       (count-then m1 (refreshed sc n d a b) _ ∙ ap (λ (x : ℕ). count m1 (acts (refreshed sc n d a b)) + x)
-      (count-then m2 (squares sc n d a b) _ ∙ ap (λ (x : ℕ). count m2 (acts (squares sc n d a b)) + x)
+      (count-then m2 (diagonal sc n d a b) _ ∙ ap (λ (x : ℕ). count m2 (acts (diagonal sc n d a b)) + x)
       (count-then m3 (crossed sc n d a b) (results sc n d a b))))
 
   size-B : length setB ≡ count m (acts (copies sc n d a b)) + count m1 (acts (refreshed sc n d a b))
   size-B =
       simp length-append (omega (arith, marked-count (λ i. Shl (sc .y i) (shareCell i b) 0) m (shares n), refresh-count sc m1 (pairs (shares n))))
 
-  size-K : length setK ≡ length S + (count m2 (acts (squares sc n d a b)) + (length (marksK m3 (pairs (shares n))) + count m4 (acts (results sc n d a b))))
+  size-K : length setK ≡ length S + (count m2 (acts (diagonal sc n d a b)) + (length (marksK m3 (pairs (shares n))) + count m4 (acts (results sc n d a b))))
   size-K =
       simp length-append
       (omega (arith, marked-count (λ i. And (sc .z i) (shareCell i a) (sc .y i)) m2 (shares n), marked-count (λ i. Shl (shareCell i d) (sc .z i) 0) m4 (shares n)))

@@ -32,8 +32,8 @@ module _ (sc : Scratch) (n d a b : ℕ) where
   abbrev pub refreshed : List Step
   refreshed = refresh sc (pairs (shares n))
 
-  abbrev pub squares : List Step
-  squares = map (λ i. And (z i) (shareCell i a) (y i)) (shares n)
+  abbrev pub diagonal : List Step
+  diagonal = map (λ i. And (z i) (shareCell i a) (y i)) (shares n)
 
   abbrev pub crossed : List Step
   crossed = products sc a (pairs (shares n))
@@ -41,7 +41,7 @@ module _ (sc : Scratch) (n d a b : ℕ) where
   abbrev pub results : List Step
   results = map (λ i. Shl (shareCell i d) (z i) 0) (shares n)
 
-  pub parts : andBlock sc n d a b ≡ copies ++ (refreshed ++ (squares ++ (crossed ++ results)))
+  pub parts : andBlock sc n d a b ≡ copies ++ (refreshed ++ (diagonal ++ (crossed ++ results)))
   unfolding andBlock
   parts = refl
 
@@ -54,7 +54,7 @@ module _ (sc : Scratch) (n d a b : ℕ) where
     after2 = past (acts refreshed) after1
 
     abbrev pub after3 : Marks
-    after3 = past (acts squares) after2
+    after3 = past (acts diagonal) after2
 
     abbrev pub after4 : Marks
     after4 = past (acts crossed) after3
@@ -105,7 +105,7 @@ module _ (n w : ℕ) (sc : Scratch) (L : Places n w sc) (d a b : ℕ) (ld : d < 
       P : List Act
       P = acts (refreshed sc n d a b)
 
-  part3 : (m : Marks) → Asked n K m (shares n) → (c c′ : Cells) → OffK c c′ → wp m (acts (squares sc n d a b)) (λ e e′. OffK e e′ × OnZ e e′) c c′
+  part3 : (m : Marks) → Asked n K m (shares n) → (c c′ : Cells) → OffK c c′ → wp m (acts (diagonal sc n d a b)) (λ e e′. OffK e e′ × OnZ e e′) c c′
   part3 m s c c′ g =
       every-wp n (λ i. And (z i) (shareCell i a) (y i)) z (λ i c. andW (c (shareCell i a)) (c (y i))) (λ i. refl) (L .z-z) K OffK
       (λ e e′ i v v′ l q h. (
@@ -162,7 +162,7 @@ module _ (n w : ℕ) (sc : Scratch) (L : Places n w sc) (d a b : ℕ) (ld : d < 
       P2 = refreshed sc n d a b
 
       P3 : List Step
-      P3 = squares sc n d a b
+      P3 = diagonal sc n d a b
 
       P4 : List Step
       P4 = crossed sc n d a b

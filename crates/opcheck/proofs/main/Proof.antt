@@ -1,4 +1,4 @@
--- `opcheck::main` meets its contract.
+-- `opcheck::main` is safe and ends.
 use borrow.Author.Needs.{needs}
 use Prim.Native.Nat.{_-_, _≤_}
 use Rattle.opcheck.proofs.main.Statement.{statement}

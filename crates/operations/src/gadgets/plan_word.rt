@@ -6,7 +6,7 @@ ghost use Rattle.word.specs.declared.step.Step.the-variants.{Const, Not};
 ghost use Rattle.word.specs.Word.{planStep};
 ghost use Rattle.masking.specs.Translation.{block, scratch, wordsFor};
 ghost use Rattle.masking.specs.Machine.{stepsOf};
-ghost use Rattle.operations.specs.Gadgets.{Enough, GoodWord, OfPlan, Ran, Still};
+ghost use Rattle.operations.specs.Gadgets.{Enough, GoodPlanWord, OfPlan, Ran, Still};
 use crate::gadgets::add::add_shares;
 use crate::gadgets::and::and_shares;
 use crate::gadgets::once::Op;
@@ -57,7 +57,7 @@ fn register(r: u32) -> Place
 
 // A good word's translation done on the cells, from place t of the tape on; the answer is the next place.
 pub fn word_done(w: u32, n: usize, tape: &[u64], t: usize, cells: &mut [u64]) -> usize
-    requires { ⌜ GoodWord w × (2 ≤ n) × (n ≤ 8) × (length (now cells) ≡ 512) ⌝ }
+    requires { ⌜ GoodPlanWord w × (2 ≤ n) × (n ≤ 8) × (length (now cells) ≡ 512) ⌝ }
     requires { ⌜ Enough (now tape) t (stepsOf (wordsFor n (planStep w))) ⌝ }
     ensures { λ r. ⌜ Ran (stepsOf (wordsFor n (planStep w))) (now (tape .entry)) t (now (cells .entry)) (now (cells .exit)) r ⌝ }
 {

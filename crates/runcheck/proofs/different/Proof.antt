@@ -1,4 +1,4 @@
--- `runcheck::different` meets its contract.
+-- `runcheck::different` is safe and ends.
 use mathlib.Core.Path.{_≡_}
 use Prim.Native.Nat.{_-_, _≤_}
 use lib.ListN.{length}

@@ -1,4 +1,4 @@
--- `runcheck::join_all` meets its contract.
+-- `runcheck::join_all` is safe and ends.
 use mathlib.Core.Path.{_≡_}
 use Prim.Native.Nat.{_-_, _≤_}
 use lib.ListN.{length}

@@ -1,4 +1,4 @@
--- `runcheck::joined` meets its contract.
+-- `runcheck::joined` is safe and ends.
 use Prim.Native.Nat.{_-_, _≤_}
 use borrow.Author.Needs.{needs}
 use Rattle.runcheck.proofs.joined.Statement.{statement}

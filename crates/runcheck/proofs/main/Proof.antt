@@ -1,4 +1,4 @@
--- `runcheck::main` meets its contract.
+-- `runcheck::main` is safe and ends.
 use mathlib.Core.Path.{_≡_}
 use Prim.Native.Nat.{_-_, _≤_}
 use lib.ListN.{length}

@@ -1,4 +1,4 @@
--- `runcheck::translated` meets its contract.
+-- `runcheck::translated` is safe and ends.
 use mathlib.Core.Path.{sym}
 use lib.Seq.{length-take-le}
 use borrow.Author.Needs.{needs}

@@ -1,4 +1,4 @@
--- `sharelist::list` meets its contract. The measure: the words that are left to list.
+-- `sharelist::list` is safe and ends. The measure: the words that are left to list.
 use Rattle.listing.specs.Writing.{listedWords}
 use Rattle.listing.proofs.Piecewise.{goes-on}
 use Rattle.listing.proofs.Placed.{as-long, counts}

@@ -7,7 +7,7 @@ use Rattle.masking.specs.Translation.{upFrom, shares, pairs, pairsOf}
 use Rattle.shares.specs.Emission.{pairSteps}
 use Rattle.shares.proofs.Emission.{Left, start, renamed, part, room, whole}
 use Rattle.masking.proofs.emitted.Rising.{rising, risen, from-first}
-use Rattle.shares.proofs.Rising.{pair-append, pair-none}
+use Rattle.shares.proofs.ByPair.{pair-append, pair-none}
 use Rattle.shares.proofs.pairs.all_pairs.Statement.{statement}
 use Rattle.shares.proofs.pairs.all_pairs.Tie as tie
 

@@ -7,7 +7,7 @@ use Rattle.masking.specs.Translation.{upFrom, pairsOf}
 use Rattle.shares.specs.Emission.{pairSteps}
 use Rattle.shares.proofs.Emission.{Left, start, renamed, part, room, whole}
 use Rattle.masking.proofs.emitted.Rising.{rising, risen}
-use Rattle.shares.proofs.Rising.{pair-first, pair-none}
+use Rattle.shares.proofs.ByPair.{pair-first, pair-none}
 use Rattle.shares.proofs.pairs.pairs_of.Statement.{statement}
 use Rattle.shares.proofs.pairs.pairs_of.Tie as tie
 

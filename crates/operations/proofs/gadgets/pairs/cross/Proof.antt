@@ -6,7 +6,7 @@ use Rattle.masking.specs.Translation.{shares, upFrom, pairs, pairsOf}
 use Rattle.operations.specs.Gadgets.{at, crossed}
 use Rattle.operations.proofs.Running.{Left, start, renamed, part, enough, whole}
 use Rattle.operations.proofs.Once.{at-first, at-next, at-fits}
-use Rattle.operations.proofs.Pairing.{in-rows, rows-end, rows-start}
+use Rattle.operations.proofs.OnPairs.{in-rows, rows-end, rows-start}
 use Rattle.operations.proofs.gadgets.pairs.cross.Statement.{statement}
 use Rattle.operations.proofs.gadgets.pairs.cross.Tie as tie
 

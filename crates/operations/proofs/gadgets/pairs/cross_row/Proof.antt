@@ -9,7 +9,7 @@ use Rattle.masking.specs.Translation.{upFrom, pairsOf}
 use Rattle.operations.specs.Gadgets.{Ran, at, crossed, crossedPair}
 use Rattle.operations.proofs.Running.{Left, start, renamed, part, enough, whole}
 use Rattle.operations.proofs.Once.{at-next, at-inside, at-fits}
-use Rattle.operations.proofs.Pairing.{pair, in-row, row-end, cross-pair}
+use Rattle.operations.proofs.OnPairs.{pair, in-row, row-end, cross-pair}
 use Rattle.operations.proofs.gadgets.pairs.cross_row.Statement.{statement}
 use Rattle.operations.proofs.gadgets.pairs.cross_row.Tie as tie
 

@@ -4,7 +4,7 @@ use Prim.Native.Nat.{_+_, _-_, _≤_}
 use native.Mathlib.Omega.{arith}
 use Rattle.masking.specs.Translation.{shares, upFrom, pairs, pairsOf, refresh, scratch}
 use Rattle.operations.proofs.Running.{Left, start, renamed, part, enough, whole}
-use Rattle.operations.proofs.Pairing.{in-rows, rows-end, rows-start}
+use Rattle.operations.proofs.OnPairs.{in-rows, rows-end, rows-start}
 use Rattle.operations.proofs.gadgets.pairs.refresh.Statement.{statement}
 use Rattle.operations.proofs.gadgets.pairs.refresh.Tie as tie
 

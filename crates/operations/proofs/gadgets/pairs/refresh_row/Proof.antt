@@ -7,7 +7,7 @@ use denote.Ref.{now}
 use Rattle.masking.specs.Translation.{upFrom, pairsOf, refresh, scratch}
 use Rattle.operations.specs.Gadgets.{Ran}
 use Rattle.operations.proofs.Running.{Left, start, renamed, part, enough, whole}
-use Rattle.operations.proofs.Pairing.{pair, in-row, row-end, refresh-pair}
+use Rattle.operations.proofs.OnPairs.{pair, in-row, row-end, refresh-pair}
 use Rattle.operations.proofs.gadgets.pairs.refresh_row.Statement.{statement}
 use Rattle.operations.proofs.gadgets.pairs.refresh_row.Tie as tie
 

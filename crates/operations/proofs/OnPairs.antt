@@ -1,4 +1,4 @@
--- What AND does for a pair of shares, and its pairs one by one. Assumes nothing.
+-- What AND does for a pair of shares, and its pairs one by one. Rests on masking's Rising.
 use mathlib.Core.Path.{_≡_, sym, ap, ap₂, _∙_}
 use mathlib.Core.Logic.{_≢_}
 use mathlib.Core.List.{List, [], _∷_, _++_, append-assoc}
