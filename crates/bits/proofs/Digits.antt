@@ -1,8 +1,8 @@
--- Word operations digit by digit: the halves and lowest digits of XOR and AND, and a number by its digits.
+-- Word operations digit by digit: the halves and lowest digits of XOR and AND, and that these two make a number.
 -- Rests on lib.Bits's step laws.
-use mathlib.Core.Path.{_≡_, sym, ap, _∙_}
-use Prim.Native.Nat.{ℕ, zero, suc, _*_, _/_, _%_, _^_, _<_, min}
-use native.Mathlib.Nat.{mod-lt, le-of-suc-le-suc, not-suc-le-zero, zero-lt-suc, pow-suc, div-div-eq-div-mul, div-one, mul-comm}
+use mathlib.Core.Path.{_≡_, ap, _∙_}
+use Prim.Native.Nat.{ℕ, zero, suc, _/_, _%_, _^_, _<_, min}
+use native.Mathlib.Nat.{mod-lt, le-of-suc-le-suc, not-suc-le-zero, zero-lt-suc}
 use native.Mathlib.Omega.{arith}
 use lib.Arith.{digits-div, digits-mod}
 use lib.Bits.{differ, xor-step, and-step}
@@ -56,16 +56,3 @@ ext-half a b p q = omega arith
 -- bit i of a
 abbrev pub bit : ℕ → ℕ → ℕ
 bit a i = a / 2 ^ i % 2
-
-bit-suc : (a i : ℕ) → bit a (suc i) ≡ bit (a / 2) i
-bit-suc a i = ap (λ (m : ℕ). a / m % 2) (pow-suc 2 i ∙ mul-comm (2 ^ i) 2) ∙ ap (λ (q : ℕ). q % 2) (sym (div-div-eq-div-mul a 2 (2 ^ i)))
-
--- a word of any width is its bits
-pub ext-bits : (w a b : ℕ) → a < 2 ^ w → b < 2 ^ w → ((i : ℕ) → i < w → bit a i ≡ bit b i) → a ≡ b
-ext-bits zero a b ha hb h = omega arith
-ext-bits (suc w) a b ha hb h =
-    let pa : a < 2 ^ w * 2 = rw (← (pow-suc 2 w)) ha in
-    let pb : b < 2 ^ w * 2 = rw (← (pow-suc 2 w)) hb in
-    ext-half a b
-    (ext-bits w (a / 2) (b / 2) (omega arith) (omega arith) (λ i l. sym (bit-suc a i) ∙ h (suc i) (omega arith) ∙ bit-suc b i))
-    (ap (λ (x : ℕ). x % 2) (sym (div-one a)) ∙ h 0 (omega arith) ∙ ap (λ (x : ℕ). x % 2) (div-one b))

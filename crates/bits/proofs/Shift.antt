@@ -2,7 +2,7 @@
 -- Rests on Digits and lib.Bits's block, shift and remainder laws; the left shift's laws hold at any width.
 use mathlib.Core.Path.{_≡_, refl, sym, ap, ap₂, _∙_}
 use Prim.Native.Nat.{ℕ, _+_, _-_, _*_, _/_, _%_, _^_, _≤_, _<_}
-use native.Mathlib.Nat.{add-zero, mul-assoc, mul-comm, mul-right-comm, add-mul, mul-one, mod-eq-of-lt, div-one, div-eq-of-lt, lt-of-lt-of-le, div-add-mod', mul-add-mod-self-right, mul-mod-left}
+use native.Mathlib.Nat.{add-zero, mul-assoc, mul-comm, mul-right-comm, add-mul, mul-one, mod-eq-of-lt, div-eq-of-lt, lt-of-lt-of-le, div-add-mod', mul-add-mod-self-right, mul-mod-left}
 use lib.Bits as Bits
 use lib.Bits.{bitXor, bitAnd, differ}
 use lib.Pow.{pow-pos, pow-add, pow-mono, shr-shr}
@@ -48,10 +48,6 @@ spread-xor a b = ap (λ (x : ℕ). x * (2 ^ 64 - 1)) (xor-odd a b) ∙ by (a % 2
 pub shl-zero : (a : ℕ) → a < 2 ^ 64 → shlW a 0 ≡ a
 unfolding shlW
 shl-zero a h = ap (λ (x : ℕ). x % 2 ^ 64) (mul-one a) ∙ mod-eq-of-lt h
-
-pub shr-zero : (a : ℕ) → shrW a 0 ≡ a
-unfolding shrW
-shr-zero a = div-one a
 
 -- a factor's remainder will do
 mod-times : (m x c : ℕ) → (x % m * c) % m ≡ (x * c) % m

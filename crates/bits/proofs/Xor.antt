@@ -34,10 +34,6 @@ pub and-zero : (a : ℕ) → andW a 0 ≡ 0
 unfolding andW
 and-zero a = Bits.and-zero-r a
 
-pub and-self : (a : ℕ) → andW a a ≡ a
-unfolding andW
-and-self a = Bits.and-self a
-
 pub and-comm : (a b : ℕ) → andW a b ≡ andW b a
 unfolding andW
 and-comm a b = Bits.and-comm a b
@@ -82,7 +78,3 @@ unfolding notW xorW
 not-xor a h =
     let m : Bits.bitAnd a (2 ^ 64 - 1) ≡ a = Bits.and-mask a 64 ∙ mod-eq-of-lt h in
     omega (arith, Bits.xor-add-and a (2 ^ 64 - 1))
-
-pub not-not : (a : ℕ) → a < 2 ^ 64 → notW (notW a) ≡ a
-unfolding notW
-not-not a h = omega arith
