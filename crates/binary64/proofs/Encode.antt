@@ -3,7 +3,7 @@
 -- Rests on Jam and Round.
 use mathlib.Core.Path.{_≡_, sym, ap, ap₂, _∙_, subst}
 use mathlib.Core.Logic.{inl, inr}
-use Prim.Native.Nat.{ℕ, suc, _+_, _-_, _*_, _^_, _≤_, _<_, min}
+use Prim.Native.Nat.{ℕ, suc, _+_, _-_, _*_, _^_, _≤_, _<_}
 use native.Mathlib.Nat.{le-trans, le-of-eq, lt-of-lt-of-le, lt-of-le-of-lt, mul-right-comm, mul-le-mul-right, mul-lt-mul-of-pos-right, le-of-mul-le-mul-right, lt-of-mul-lt-mul-right}
 use native.Mathlib.Omega.{arith}
 use lib.Count.{leadingZeros, leading-top}
@@ -13,7 +13,7 @@ use Rattle.binary64.specs.Rounding.{magBits}
 use Rattle.binary64.specs.Steps.{roundNE, jam, packed, encodedAt, encoded}
 use Rattle.binary64.proofs.Cases.{lt-or-ge, if-lt, if-not-lt, pow-lt-back}
 use Rattle.binary64.proofs.Jam.{round-jam, jam-lt, jam-ge}
-use Rattle.binary64.proofs.Round.{bits-under, bits-over, round-scale}
+use Rattle.binary64.proofs.Round.{limit, bits-under, bits-over, round-scale}
 
 -- M in units of which 2^u make 2^-1022; Z · 2^s has its top bit at 63, and that place is M's top bit, whose E is e - s + 1
 pub record Placed (u M Z s e : ℕ) : Type 0 where
@@ -45,9 +45,6 @@ encoded-lt s Z e =
       | inl l ↦ subst (λ (x : ℕ). x < 2 ^ 63) (sym (if-lt e s 0 (packed (e - s) (roundNE (Z * 2 ^ s) 11)) l)) (pow-pos 63)
       | inr l ↦ subst (λ (x : ℕ). x < 2 ^ 63) (sym (if-not-lt e s 0 (packed (e - s) (roundNE (Z * 2 ^ s) 11)) l)) (limit ((e - s) * 2 ^ 52 + roundNE (Z * 2 ^ s) 11))
     ]
-  where
-    limit : (x : ℕ) → min x (2047 * 2 ^ 52) < 2 ^ 63
-    limit x = omega arith
 
 -- wherever Z's top bit is
 pub record Stands (u M Z e : ℕ) : Type 0 where

@@ -13,8 +13,7 @@ use Rattle.binary64.specs.Number.{sign, expo, frac, magnitudeOf, magnitu
 use Rattle.binary64.specs.Rounding.{magBits}
 use Rattle.binary64.specs.Floor.{wholeOf, floor}
 use Rattle.binary64.specs.Steps.{roundNE, packed}
-use Rattle.binary64.proofs.Cases.{zero-one, if-lt, if-not-lt, if-le, if-not-le, if-eq, if-not-eq}
-use Rattle.binary64.proofs.Words.{sign-cases}
+use Rattle.binary64.proofs.Cases.{if-lt, if-not-lt, if-le, if-not-le, if-eq, if-not-eq}
 use Rattle.binary64.proofs.Round.{bits-over, round-scale, round-none}
 
 -- ---- a number of 53 bits, or 2^53, times 2^e, has these bits
@@ -183,21 +182,3 @@ module _ (a : ℕ) where
             ap (λ (z : ℕ). z + (2 ^ (1075 - suc e) - 1)) w ∙ add-assoc ((sign a * 2 ^ 11 + e) * 2 ^ 52) (2 ^ 52 + frac a) (2 ^ (1075 - suc e) - 1) in
             ap (λ (z : ℕ). z / 2 ^ (1075 - suc e) * 2 ^ (1075 - suc e)) v
             ∙ word-up (2 ^ 52 + frac a) e (1075 - suc e) 1074 (omega arith) (omega arith) (omega arith) (omega arith) (omega arith) (omega arith) (sign a)
-
--- both signs at once: the word raised by s · (2^k - 1)
-pub floor-raised : (a : ℕ) → a < 2 ^ 64 → 1023 ≤ expo a → expo a < 1075
-    → floor a ≡ (a + sign a * (2 ^ (1075 - expo a) - 1)) / 2 ^ (1075 - expo a) * 2 ^ (1075 - expo a)
-floor-raised a ha lo hi =
-    let k = 1075 - expo a in
-    elim (sign-cases a ha) [
-      | inl s ↦
-          floor-plus a lo hi s ∙ ap (λ (z : ℕ). z / 2 ^ k * 2 ^ k) (sym (ap (λ (z : ℕ). a + z * (2 ^ k - 1)) s ∙ none a (2 ^ k - 1)))
-      | inr s ↦
-          floor-minus a lo hi (λ t. zero-one t s) ∙ ap (λ (z : ℕ). z / 2 ^ k * 2 ^ k) (sym (ap (λ (z : ℕ). a + z * (2 ^ k - 1)) s ∙ once a (2 ^ k - 1)))
-    ]
-  where
-    none : (a w : ℕ) → a + 0 * w ≡ a
-    none a w = omega arith
-
-    once : (a w : ℕ) → a + 1 * w ≡ a + w
-    once a w = omega arith

@@ -1,6 +1,6 @@
 -- The product in terms of the jammed product of the significands: P = m_a · m_b has its top bit at 104 or 105, and 51 of its bits are jammed.
 -- Rests on Jam, Round and Encode.
-use mathlib.Core.Path.{_≡_, refl, sym, ap, ap₂, _∙_}
+use mathlib.Core.Path.{_≡_, refl, sym, ap, _∙_}
 use mathlib.Core.Logic.{inl, inr}
 use Prim.Native.Nat.{ℕ, zero, suc, _+_, _-_, _*_, _^_, _≤_, _<_}
 use native.Mathlib.Nat.{le-trans, le-of-eq, lt-of-lt-of-le, lt-of-le-of-lt, mul-le-mul, mul-le-mul-left, mul-le-mul-right, mul-lt-mul-of-pos-right, mul-mul-mul-comm, mul-zero, zero-mul, suc-add, mod-lt}
@@ -8,10 +8,10 @@ use native.Mathlib.Omega.{arith}
 use lib.Pow.{pow-pos, pow-add}
 use Rattle.binary64.specs.Number.{expo, frac, magnitudeOf, magnitude}
 use Rattle.binary64.specs.Rounding.{magBits}
-use Rattle.binary64.specs.Steps.{roundNE, jam, packed, encoded}
+use Rattle.binary64.specs.Steps.{roundNE, jam, encoded}
 use Rattle.binary64.proofs.Cases.{lt-or-ge}
 use Rattle.binary64.proofs.Jam.{jam-pos, jam-lt}
-use Rattle.binary64.proofs.Round.{bits-zero, bits-under, bits-over, round-scale}
+use Rattle.binary64.proofs.Round.{bits-zero, bits-under, round-scale}
 use Rattle.binary64.proofs.Encode.{Placed, Stands, Top, jam-top, stands-bits}
 
 -- ---- M = P · 2^x, P's top bit at 104 + t
@@ -30,11 +30,6 @@ module _ (P x t : ℕ) (ht : t ≤ 1) (lo : 2 ^ (104 + t) ≤ P) (hi : P < 2 ^ s
   -- by the place of the top bit alone: t + x + 2 is the exponents' sum with P's carry
   pub product-tiny-at : t + x < 1022 → magBits 1126 (P * 2 ^ x) ≡ 0
   product-tiny-at h = bits-under 1126 (P * 2 ^ x) (104 + t + x) (omega arith) M-lo M-hi (omega arith)
-
-  pub product-packed-at : 1022 ≤ t + x → magBits 1126 (P * 2 ^ x) ≡ packed (t + x - 1022) (roundNE P (52 + t))
-  product-packed-at h =
-      let e : 104 + t + x - 1126 ≡ t + x - 1022 = omega arith in
-      bits-over 1126 (P * 2 ^ x) (104 + t + x) (omega arith) M-lo M-hi (omega arith) ∙ ap₂ packed e scaled-round
 
   stands-at : 1013 ≤ x → Stands 1126 (P * 2 ^ x) (jam 51 P) (x - 1013)
   stands-at h = record { pos = jam-pos 51 P (lt-of-lt-of-le (pow-pos (104 + t)) lo); place = place }
@@ -108,7 +103,7 @@ pub product-zero-r : (a b : ℕ) → expo b ≡ 0 → magBits 1126 (magnitude a 
 unfolding magnitude
 product-zero-r a b h = ap (λ (E : ℕ). magBits 1126 (magnitude a * magnitudeOf E (frac b))) h ∙ ap (magBits 1126) (mul-zero (magnitude a)) ∙ bits-zero 1126
 
-frac-lt : (a : ℕ) → frac a < 2 ^ 52
+pub frac-lt : (a : ℕ) → frac a < 2 ^ 52
 frac-lt a = mod-lt a (pow-pos 52)
 
 pub product-tiny : (a b : ℕ) → (expo a ≡ 0 → ⊥) → (expo b ≡ 0 → ⊥) → expo a + expo b < 1015 → magBits 1126 (magnitude a * magnitude b) ≡ 0

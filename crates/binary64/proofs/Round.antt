@@ -87,6 +87,10 @@ bits-small u M h = if-lt M (2 ^ u) 0 (limited (roundedE u M) (roundedF M)) h
 pub bits-zero : (u : ℕ) → magBits u 0 ≡ 0
 bits-zero u = bits-small u 0 (pow-pos u)
 
+-- the limit leaves bit 63 free
+pub limit : (x : ℕ) → min x (2047 * 2 ^ 52) < 2 ^ 63
+limit x = omega arith
+
 pub bits-lt : (u M : ℕ) → 52 ≤ u → magBits u M < 2 ^ 63
 bits-lt u M h =
     subst (λ (x : ℕ). x < 2 ^ 63) (sym (magBits-min u M h))
@@ -94,9 +98,6 @@ bits-lt u M h =
       | inl l ↦ subst (λ (x : ℕ). x < 2 ^ 63) (sym (if-lt M (2 ^ u) 0 (packed (size M - suc u) (significand M)) l)) (pow-pos 63)
       | inr l ↦ subst (λ (x : ℕ). x < 2 ^ 63) (sym (if-not-lt M (2 ^ u) 0 (packed (size M - suc u) (significand M)) l)) (limit ((size M - suc u) * 2 ^ 52 + significand M))
     ])
-  where
-    limit : (x : ℕ) → min x (2047 * 2 ^ 52) < 2 ^ 63
-    limit x = omega arith
 
 -- ---- M's top bit has place c
 module _ (u M c : ℕ) (h52 : 52 ≤ u) (lo : 2 ^ c ≤ M) (hi : M < 2 ^ suc c) where
