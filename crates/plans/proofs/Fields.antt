@@ -62,12 +62,6 @@ pack j k lo hi hl hh w = ap (xorW lo) (shl-exact j k hi hh w) ∙ xor-comm lo (h
 pub choose : (p q y : ℕ) → p < 2 ^ 64 → q < 2 ^ 64 → xorW q (andW (xorW p q) (spreadW y)) ≡ p * (y % 2) + q * (1 - y % 2)
 choose p q y hp hq = xor-comm q (andW (xorW p q) (spreadW y)) ∙ select p q y hp hq
 
-pub choose-one : (p q y : ℕ) → p < 2 ^ 64 → q < 2 ^ 64 → y % 2 ≡ 1 → xorW q (andW (xorW p q) (spreadW y)) ≡ p
-choose-one p q y hp hq e = choose p q y hp hq ∙ ap (λ (b : ℕ). p * b + q * (1 - b)) e ∙ omega arith
-
-pub choose-zero : (p q y : ℕ) → p < 2 ^ 64 → q < 2 ^ 64 → y % 2 ≡ 0 → xorW q (andW (xorW p q) (spreadW y)) ≡ q
-choose-zero p q y hp hq e = choose p q y hp hq ∙ ap (λ (b : ℕ). p * b + q * (1 - b)) e ∙ omega arith
-
 -- a shift right by s where y is odd
 pub stage-right : (w s y : ℕ) → w < 2 ^ 64 → xorW w (andW (xorW (shrW w s) w) (spreadW y)) ≡ w / 2 ^ (y % 2 * s)
 stage-right w s y h =

@@ -1,6 +1,6 @@
 -- Four zero tests for four ANDs: NOT, then AND with itself shifted right by 8, 4, 2 and 1. Bit p is then 1 exactly where the sixteen bits
 -- from place p on were all 0, for every p up to 48; the plans put a test in each of the lanes 0, 16, 32 and 48.
--- Rests on bits' Places; the lanes are packed by Fields' `pack`.
+-- Rests on bits' Bound and Places; the lanes are packed by Fields' `pack`.
 use mathlib.Core.Path.{_≡_, refl, sym, ap, ap₂, _∙_}
 use Prim.Native.Nat.{ℕ, zero, suc, _+_, _-_, _*_, _/_, _%_, _^_, _≤_, _<_, min}
 use native.Mathlib.Nat.{add-comm, div-one, min-zero, mul-pos, zero-lt-suc, zero-mul}
@@ -10,13 +10,14 @@ use Rattle.bits.specs.Ops.{xorW, andW, notW, shrW}
 use Rattle.bits.proofs.Digits.{bit}
 use Rattle.bits.proofs.Xor.{and-assoc, and-comm}
 use Rattle.bits.proofs.Shift.{shr-shr′}
+use Rattle.bits.proofs.Bound.{and-lt, not-lt}
 use Rattle.bits.proofs.Places.{shr-and, bit-and, bit-shr, bit-not, xor-same, same-xor}
 
 -- 1 where v is 0, else 0
 abbrev pub isZero : ℕ → ℕ
 isZero v = 1 - min v 1
 
-not-zero : (x : ℕ) → 0 < x → isZero x ≡ 0
+pub not-zero : (x : ℕ) → 0 < x → isZero x ≡ 0
 not-zero x h = omega arith
 
 -- SHR k, AND
@@ -26,6 +27,10 @@ andDown k z = andW z (shrW z k)
 -- the nine steps
 unfoldable pub zeros16 : ℕ → ℕ
 zeros16 w = andDown 1 (andDown 2 (andDown 4 (andDown 8 (notW w))))
+
+pub zeros16-lt : (w : ℕ) → zeros16 w < 2 ^ 64
+unfolding zeros16
+zeros16-lt w = and-lt 64 _ _ (and-lt 64 _ _ (and-lt 64 _ _ (and-lt 64 _ _ (not-lt w))))
 
 -- these ANDs may be done in any order
 and-down-comm : (i j z : ℕ) → andDown i (andDown j z) ≡ andDown j (andDown i z)

@@ -1,7 +1,7 @@
 -- Running a plan on named registers: a plan's words as steps, runs that follow each other, and 32 cells as a list that computes.
 -- Rests on word's Together (a step's word taken apart is the step) and plain's Machine.
 use mathlib.Core.Path.{_≡_, refl, sym, ap, _∙_}
-use mathlib.Core.Bool.{Bool, true, false, _&&_}
+use mathlib.Core.Bool.{Bool, true, _&&_}
 use mathlib.Core.List.{List, [], _∷_, _++_, map}
 use Prim.Native.Nat.{ℕ, zero, suc, _+_, _<_}
 use native.Mathlib.Nat.{add-zero, add-suc, suc-add, zero-add}
@@ -11,7 +11,7 @@ use lib.ListN.{length, getD}
 use lib.Seq.{ext-getD}
 use Rattle.word.specs.declared.step.Step.{Step}
 use Rattle.word.specs.Word.{inPlan, wordOf}
-use Rattle.word.proofs.Together.{plan-exact}
+use Rattle.word.proofs.Together.{both, plan-exact}
 use Rattle.plain.specs.Machine.{stepped, after, run}
 
 -- a plan's steps in order
@@ -22,10 +22,6 @@ runSteps (s ∷ ss) cells = runSteps ss (stepped s cells)
 abbrev pub allInPlan : List Step → Bool
 allInPlan [] = true
 allInPlan (s ∷ ss) = inPlan s && allInPlan ss
-
-both : (p q : Bool) → T (p && q) → T p × T q
-both true q h = (tt, h)
-both false q h = absurd h
 
 -- a plan's words do what its steps do
 pub run-steps : (ss : List Step) → T (allInPlan ss) → (cells : List ℕ) → run (map wordOf ss) cells ≡ runSteps ss cells

@@ -2,7 +2,6 @@
 -- none is bad, and so to each of them.
 -- Rests on word's Together and Checking.
 use mathlib.Core.Path.{_≡_, refl, sym, ap, _∙_, subst}
-use mathlib.Core.Bool.{Bool, true, false, _&&_}
 use mathlib.Core.List.{List, [], _∷_, map}
 use Prim.Native.Nat.{ℕ, suc, _<_}
 use lib.Dec.{T}
@@ -12,7 +11,7 @@ use Rattle.word.specs.declared.step.Decoded.{Decoded}
 use Rattle.word.specs.declared.step.Decoded.the-variants.{Good}
 use Rattle.word.specs.Word.{inPlan, planStep, wordOf}
 use Rattle.word.specs.Answers.{firstOf, firstBad}
-use Rattle.word.proofs.Together.{plan-exact}
+use Rattle.word.proofs.Together.{both, plan-exact}
 use Rattle.word.proofs.Checking.{first-bad}
 use Rattle.plans.proofs.Registers.{allInPlan}
 
@@ -21,10 +20,6 @@ none-bad [] h = refl
 none-bad (s ∷ ss) h =
     let p = both (inPlan s) (allInPlan ss) h in
     ap (λ (d : Decoded). firstOf d (firstBad planStep (map wordOf ss))) (plan-exact .back s (p .0) .1) ∙ ap suc (none-bad ss (p .1))
-  where
-    both : (p q : Bool) → T (p && q) → T p × T q
-    both true q h = (tt, h)
-    both false q h = absurd h
 
 pub each-good : (plan : List ℕ) → firstBad planStep plan ≡ length plan → (i : ℕ) → i < length plan → (s : Step) × (planStep (getD plan i 0) ≡ Good s)
 each-good plan e i h = first-bad planStep plan .good i (subst (λ (n : ℕ). i < n) (sym e) h)

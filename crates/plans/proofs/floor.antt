@@ -1,4 +1,4 @@
--- Floor's plan: the fraction mask (FractionMask) and the head that all roundings share (Head), the theorem (Computes).
+-- Floor's plan: the fraction mask (FractionMask), the head as a whole (Head), the theorem (Computes).
 pub mod FractionMask
 pub mod Head
 pub mod Computes

@@ -1,5 +1,5 @@
--- The head of a rounding to whole numbers (floor's): a mask W over the bits of the fraction, and a mask U for a magnitude
--- below 1. Registers: 0 the operand, 3 its E, 4 the tests Z, 5 W, 6 U; 7, 8 and 9 are scratch.
+-- The head of floor's plan: a mask W over the bits of the fraction, and a mask U for a magnitude below 1.
+-- Registers: 0 the operand, 3 its E, 4 the tests Z, 5 W, 6 U; 7, 8 and 9 are scratch.
 use mathlib.Core.List.{List, [], _∷_, _++_}
 use Prim.Native.Nat.{ℕ}
 use Rattle.word.specs.declared.step.Step.{Step}

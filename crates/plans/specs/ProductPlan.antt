@@ -8,6 +8,7 @@ use Prim.Native.Nat.{ℕ, zero, suc}
 use Rattle.word.specs.declared.step.Step.{Step}
 use Rattle.word.specs.declared.step.Step.the-variants.{Const, Xor, And, Not, Shl, Shr, Spread, Add}
 use Rattle.word.specs.Word.{wordOf}
+use Rattle.plans.specs.Segments.{zeroTests}
 
 -- m_x = 2^52 + F_x; n_x = 2^52 - 1 - F_x; S + C = n_x + n_y + 1; low = 0
 unfoldable pub productHead : List Step
@@ -51,10 +52,10 @@ sticky =
 
 -- four tests in lanes of 16 bits: bit 0 of Z is [K = 0], 16 [E_x = 0], 32 [E_y = 0], 48 [R >> 53 = 1535]
 unfoldable pub tests : List Step
+unfolding zeroTests
 tests =
     Shl 17 0 1 ∷ Shr 17 17 53 ∷ Shl 17 17 16 ∷ Xor 15 14 17 ∷ Shl 17 1 1 ∷ Shr 17 17 53 ∷ Shl 17 17 32 ∷ Xor 15 15 17 ∷ Shr 17 12 53 ∷ Const 8 1535
-    ∷ Xor 17 17 8 ∷ Shl 17 17 48 ∷ Xor 15 15 17 ∷ Not 15 15 ∷ Shr 17 15 8 ∷ And 15 15 17 ∷ Shr 17 15 4 ∷ And 15 15 17 ∷ Shr 17 15 2 ∷ And 15 15 17
-    ∷ Shr 17 15 1 ∷ And 15 15 17 ∷ []
+    ∷ Xor 17 17 8 ∷ Shl 17 17 48 ∷ Xor 15 15 17 ∷ zeroTests 15 17
 
 -- B: the significand rounded by one addition, under its exponent
 unfoldable pub roundPack : List Step

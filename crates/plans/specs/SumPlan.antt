@@ -45,11 +45,6 @@ unfoldable pub largeShifts : List Step
 unfolding shiftKeeping
 largeShifts = shiftKeeping 8 55 ++ (shiftKeeping 16 56 ++ shiftKeeping 32 57)
 
--- the bits of register r at 0, 16, 32 and 48: whether the 16 bits from there on were all 0
-unfoldable pub allZero16 : ℕ → List Step
-unfolding zeroTests
-allZero16 r = zeroTests r 12
-
 -- the bits lost that count, with D >> 58, brought to 16 bits
 unfoldable pub lostSteps : List Step
 lostSteps =
@@ -58,10 +53,10 @@ lostSteps =
 
 -- bits of register 14: 0 [nothing was lost], 16 [D >> 58 = 0], 32 [E_b = 0], 48 [D >> 58 = 0 and E_b = 0]
 unfoldable pub alignTests : List Step
-unfolding allZero16
+unfolding zeroTests
 alignTests =
     Shl 12 13 16 ∷ Xor 14 14 12 ∷ Shl 12 13 59 ∷ Xor 14 14 12 ∷ Shl 13 7 1 ∷ Shr 13 13 53 ∷ Shl 12 13 32 ∷ Xor 14 14 12 ∷ Shl 12 13 48 ∷ Xor 14 14 12
-    ∷ allZero16 14
+    ∷ zeroTests 14 12
 
 -- B = 2 · (w >> d) with a sticky bit, d = E_a - E_b; 0 where E_b = 0
 unfoldable pub alignSteps : List Step
@@ -106,12 +101,12 @@ exponentSteps =
 -- bits of register 15: 0 [z's bit 11 and its bits 9..0 are 0], 16 [v = 2046 or 2047], 32 [s_a = 1, signs differ, A - B = 0],
 -- 48 [s_a = 1, signs differ, E_b = 0, v < 0]
 unfoldable pub resultTests : List Step
-unfolding allZero16
+unfolding zeroTests
 resultTests =
     Shl 15 17 54 ∷ Shr 15 15 54 ∷ Shr 12 17 11 ∷ Shl 12 12 63 ∷ Shr 12 12 53 ∷ Xor 15 15 12 ∷ Shl 12 20 52 ∷ Shr 12 12 53 ∷ Const 13 1023
     ∷ Xor 12 12 13 ∷ Shl 12 12 16 ∷ Xor 15 15 12 ∷ Not 12 6 ∷ Shr 12 12 63 ∷ Not 13 3 ∷ Shr 13 13 63 ∷ Shl 13 13 1 ∷ Xor 12 12 13 ∷ Not 13 18
     ∷ Shl 13 13 63 ∷ Shr 13 13 63 ∷ Shl 13 13 2 ∷ Xor 13 13 12 ∷ Shl 13 13 32 ∷ Xor 15 15 13 ∷ Not 13 14 ∷ Shr 13 13 32 ∷ Shl 13 13 63 ∷ Shr 13 13 63
-    ∷ Shl 13 13 2 ∷ Xor 12 12 13 ∷ Not 13 20 ∷ Shr 13 13 63 ∷ Shl 13 13 3 ∷ Xor 12 12 13 ∷ Shl 12 12 48 ∷ Xor 15 15 12 ∷ allZero16 15
+    ∷ Shl 13 13 2 ∷ Xor 12 12 13 ∷ Not 13 20 ∷ Shr 13 13 63 ∷ Shl 13 13 3 ∷ Xor 12 12 13 ∷ Shl 12 12 48 ∷ Xor 15 15 12 ∷ zeroTests 15 12
 
 -- bits 62..0: v · 2^52 and z's significand, rounded by one addition
 unfoldable pub roundSteps : List Step

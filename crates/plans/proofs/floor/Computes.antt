@@ -1,6 +1,6 @@
 -- The built-in plan of floor computes floor: for every operand in register 0 and whatever the other registers hold, register 2 is the floor
 -- of document 01. The plan's last steps raise a negative operand by the fraction mask and clear the fraction.
--- Rests on RoundingHead for the masks, and on binary64's FloorModel for floor on the word itself.
+-- Rests on Head for the masks, and on binary64's FloorModel for floor on the word itself.
 use mathlib.Core.Path.{_≡_, refl, sym, ap, ap₂, _∙_, subst}
 use mathlib.Core.Logic.{inl, inr}
 use mathlib.Core.List.{List}
@@ -28,7 +28,7 @@ use Rattle.plans.proofs.WellFormed.{none-bad}
 use Rattle.plans.proofs.Fields.{low-bits, spread-run-at, clear-low}
 use Rattle.plans.proofs.Lanes.{zeros16}
 use Rattle.plans.proofs.floor.FractionMask.{maskW, maskU}
-use Rattle.plans.proofs.floor.Head.{lanesOf, rounding-head}
+use Rattle.plans.proofs.floor.Head.{lanesOf, floor-head}
 
 -- ---- the steps after the masks
 unfoldable pub roundDown : ℕ → ℕ → ℕ → ℕ
@@ -146,7 +146,7 @@ module _ (x : ℕ) (hx : x < 2 ^ 64) where
   floor-model : floorModel x ≡ floor x
   unfolding floorModel
   floor-model =
-      let m = rounding-head x 0 (lanesOf x) hx (omega arith) (omega arith) in
+      let m = floor-head x hx in
       elim (lt-or-ge (expo x) 1023) [
         | inl l ↦ ap₂ (roundDown x) (m .below l .0) (m .below l .1) ∙ floor-below l
         | inr g ↦ ap₂ (roundDown x) (m .above g .0) (m .above g .1) ∙ floor-above g

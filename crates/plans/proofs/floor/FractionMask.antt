@@ -1,6 +1,5 @@
--- The masks that the roundings to whole numbers share: from the tests of the exponent a mask W over the fraction's bits, and a mask U over all
--- bits but the sign for a magnitude below 1. Stated on the values that the steps of specs/FractionMask compute, for any word of tests Z, so
--- that plans whose lanes hold a further test share it.
+-- Floor's masks: from the tests of the exponent a mask W over the fraction's bits, and a mask U over all bits but the sign for a magnitude
+-- below 1. Stated on the values that the steps of specs/FractionMask compute, for any word of tests Z.
 -- Rests on Fields and Lanes.
 use mathlib.Core.Path.{_≡_, refl, sym, ap, ap₂, _∙_, subst}
 use mathlib.Core.Logic.{_⊎_, inl, inr}

@@ -1,5 +1,5 @@
 -- The product's choice by range, by the operands' zeros and by the signs, in numbers.
--- Rests on ProductEnd, ProductPack, Lanes, Fields and Shifts.
+-- Rests on End, Pack, Lanes, Fields and Shifts.
 use mathlib.Core.Path.{_≡_, refl, sym, ap, ap₂, _∙_}
 use mathlib.Core.Logic.{inl, inr}
 use Prim.Native.Nat.{ℕ, _+_, _-_, _*_, _/_, _%_, _^_, _≤_, _<_, min}

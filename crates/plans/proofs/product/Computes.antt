@@ -1,5 +1,5 @@
 -- The product's plan computes the product, for all operands and whatever the other registers hold.
--- Rests on ProductHigh (head and rows) and ProductLast (the last segments).
+-- Rests on High (head and rows) and Last (the last segments).
 use mathlib.Core.Path.{_≡_, refl, ap, ap₂, _∙_}
 use mathlib.Core.List.{List, _++_}
 use Prim.Native.Nat.{ℕ, _+_, _*_, _/_, _%_, _^_, _<_}

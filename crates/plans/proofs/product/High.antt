@@ -1,5 +1,5 @@
 -- The product of the significands, with the exponents: from any registers, what the plan's head, its 52 rows and the rows 52 and 53 leave.
--- Rests on ProductRows.
+-- Rests on Rows.
 use mathlib.Core.Path.{_≡_, refl, sym, ap, ap₂, _∙_, subst}
 use mathlib.Core.List.{List, [], _∷_, _++_}
 use Prim.Native.Nat.{ℕ, _+_, _*_, _/_, _%_, _^_, _≤_, _<_}
@@ -12,6 +12,7 @@ use Rattle.bits.specs.Ops.{xorW, notW, shlW, shrW, addW}
 use Rattle.bits.proofs.Shift.{shl-zero}
 use Rattle.bits.proofs.Places.{shl-exact, add-exact}
 use Rattle.binary64.specs.Number.{expo, frac}
+use Rattle.binary64.proofs.ProductModel.{frac-lt}
 use Rattle.word.specs.declared.step.Step.{Step}
 use Rattle.word.specs.declared.step.Step.the-variants.{Add}
 use Rattle.plain.specs.Machine.{stepped}
@@ -20,7 +21,7 @@ use Rattle.plans.proofs.Registers.{runSteps, run-append, tab, tabbed}
 use Rattle.plans.proofs.Fields.{low-bits, pack}
 use Rattle.plans.proofs.Shifts.{not-is, exponent}
 use Rattle.plans.proofs.product.CarrySave.{sumOf3, carryOf3, halved, lowered, Sums, carry-save, carry-row, sum-lt, carry-lt}
-use Rattle.plans.proofs.product.Operands.{frac-lt, expo-lt, signif, comple, comple-lt, comple-sum}
+use Rattle.plans.proofs.product.Operands.{expo-lt, signif, comple, comple-lt, comple-sum}
 use Rattle.plans.proofs.product.Rows.{at, Inv, rowsTotal, rows-inv, row-mx}
 
 -- ---- the head

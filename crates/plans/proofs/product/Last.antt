@@ -1,5 +1,5 @@
 -- The product's last segments against the definition: from R and low, which hold p = m_x · m_y and the exponents, to the product's word.
--- Rests on ProductNormal, ProductPack and ProductChoose (the segments in numbers), RoundAdd and ProductBits (the definition's bits).
+-- Rests on Normal, Pack and Choose (the segments in numbers), RoundAdd and Bits (the definition's bits).
 use mathlib.Core.Path.{_≡_, refl, sym, ap, ap₂, _∙_, subst}
 use mathlib.Core.Logic.{inl, inr}
 use Prim.Native.Nat.{ℕ, zero, suc, _+_, _-_, _*_, _%_, _^_, _≤_, _<_, min}

@@ -1,13 +1,12 @@
 -- The fields of an operand of the product and their bounds: E, F, the significand m = 2^52 + F, and n = 2^53 - 1 - m, its complement.
+-- Rests on binary64's ProductModel.
 use mathlib.Core.Path.{_≡_}
 use Prim.Native.Nat.{ℕ, _+_, _-_, _/_, _^_, _<_}
 use native.Mathlib.Nat.{mod-lt}
 use native.Mathlib.Omega.{arith}
 use lib.Pow.{pow-pos}
 use Rattle.binary64.specs.Number.{expo, frac}
-
-pub frac-lt : (a : ℕ) → frac a < 2 ^ 52
-frac-lt a = mod-lt a (pow-pos 52)
+use Rattle.binary64.proofs.ProductModel.{frac-lt}
 
 pub expo-lt : (a : ℕ) → expo a < 2048
 expo-lt a = mod-lt (a / 2 ^ 52) (pow-pos 11)

@@ -1,15 +1,15 @@
 -- The product's four tests and its rounding, in numbers: R = v · 2^52 + g, where v - 1023 is the exponent before rounding.
--- Rests on ProductEnd, Lanes, Fields, Shifts and RoundAdd.
+-- Rests on End, Lanes, Fields, Shifts and RoundAdd.
 use mathlib.Core.Path.{_≡_, refl, sym, ap, ap₂, _∙_}
 use Prim.Native.Nat.{ℕ, _+_, _-_, _*_, _/_, _%_, _^_, _≤_, _<_}
 use mathlib.Core.Logic.{inl, inr}
 use native.Mathlib.Nat.{mod-lt, mod-eq-of-lt, div-one, add-assoc}
 use native.Mathlib.Omega.{arith}
 use lib.Pow.{pow-pos, split, high}
-use Rattle.bits.specs.Ops.{xorW, andW, notW, shlW, shrW, addW}
+use Rattle.bits.specs.Ops.{xorW, notW, shlW, shrW, addW}
 use Rattle.bits.proofs.Digits.{digit, bit}
 use Rattle.bits.proofs.Xor.{xor-comm, xor-cancel}
-use Rattle.bits.proofs.Bound.{xor-lt, and-lt, not-lt, shl-lt, shr-lt, add-lt}
+use Rattle.bits.proofs.Bound.{xor-lt, shl-lt, shr-lt, add-lt}
 use Rattle.bits.proofs.Sum.{xor-packed}
 use Rattle.bits.proofs.Places.{shr-is, shl-exact}
 use Rattle.binary64.specs.Number.{expo}
@@ -17,20 +17,11 @@ use Rattle.binary64.proofs.Cases.{lt-or-ge}
 use Rattle.plans.proofs.product.Operands.{expo-lt}
 use Rattle.plans.proofs.Fields.{low-bits, pack}
 use Rattle.plans.proofs.Shifts.{not-is, add-is, shl-keeps, exponent}
-use Rattle.plans.proofs.Lanes.{isZero, zeros16, lane0, lane1, lane2, lane3}
+use Rattle.plans.proofs.Lanes.{isZero, zeros16, zeros16-lt, lane0, lane1, lane2, lane3}
 use Rattle.plans.proofs.RoundAdd.{round-add}
 use Rattle.plans.proofs.product.End.{exponentW, lanesW, packW}
 
 -- ---- the tests
-pub zeros16-lt : (w : ℕ) → zeros16 w < 2 ^ 64
-unfolding zeros16
-zeros16-lt w =
-    let a = notW w in
-    let b = andW a (shrW a 8) in
-    let c = andW b (shrW b 4) in
-    let d = andW c (shrW c 2) in
-    and-lt 64 d (shrW d 1) (and-lt 64 c (shrW c 2) (and-lt 64 b (shrW b 4) (and-lt 64 a (shrW a 8) (not-lt w))))
-
 -- the tests' answers: K = 0, E_x = 0, E_y = 0, and v = 3070 or 3071
 pub record Tested (K x y v Z : ℕ) : Type 0 where
   pub Z-lt : Z < 2 ^ 64

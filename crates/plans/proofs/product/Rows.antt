@@ -11,10 +11,11 @@ use Rattle.bits.specs.Ops.{xorW, shrW, spreadW}
 use Rattle.bits.proofs.Digits.{digit, bit-lt}
 use Rattle.bits.proofs.Xor.{xor-zero-l}
 use Rattle.bits.proofs.Places.{shr-is}
+use Rattle.binary64.proofs.ProductModel.{frac-lt}
 use Rattle.plain.specs.Machine.{stepped}
 use Rattle.plans.specs.ProductPlan.{carryRow, productRow, productRows}
 use Rattle.plans.proofs.Registers.{runSteps, run-append, tab, tabbed}
-use Rattle.plans.proofs.product.Operands.{frac-lt, signif, comple}
+use Rattle.plans.proofs.product.Operands.{signif, comple}
 use Rattle.plans.proofs.Fields.{spread-run}
 use Rattle.plans.proofs.Shifts.{xor-ones}
 use Rattle.plans.proofs.product.CarrySave.{halved, carryOf3, lowered, Sums, carry-row, halved-lt, carry-lt, two-pow}

@@ -1,5 +1,5 @@
 -- The sum's plan, the aligned operand: the smaller significand shifted right by the distance of the exponents, doubled, with a sticky bit
--- for what was lost; nothing for a zero. It is binary64's `aligned`. Rests on SumOrder, SumShift, Lanes and Or16.
+-- for what was lost; nothing for a zero. It is binary64's `aligned`. Rests on Order, Shift, Lanes and Or16.
 use mathlib.Core.Path.{_≡_, refl, sym, ap, ap₂, _∙_, subst}
 use mathlib.Core.Logic.{_⊎_, inl, inr}
 use Prim.Native.Nat.{ℕ, zero, suc, _+_, _-_, _*_, _/_, _%_, _^_, _≤_, _<_, min}
@@ -10,7 +10,7 @@ use Rattle.bits.specs.Ops.{xorW, andW, notW, shlW, shrW, spreadW}
 use Rattle.bits.proofs.Digits.{digit, bit-lt, bit}
 use Rattle.bits.proofs.Xor.{xor·ring}
 use Rattle.bits.proofs.Sum.{xor-packed}
-use Rattle.bits.proofs.Bound.{and-lt, not-lt, xor-lt}
+use Rattle.bits.proofs.Bound.{xor-lt}
 use Rattle.bits.proofs.Parity.{xor-shifted}
 use Rattle.bits.proofs.Places.{shr-is, shl-exact, bit-not, bit-shr}
 use Rattle.binary64.specs.Number.{expo, frac}
@@ -19,7 +19,7 @@ use Rattle.binary64.proofs.Jam.{jam-is, jam-all}
 use Rattle.binary64.proofs.SumCases.{aligned-some, aligned-none}
 use Rattle.plans.proofs.Fields.{low-bits, spread-is, pack}
 use Rattle.plans.proofs.Shifts.{shl-keeps, exponent}
-use Rattle.plans.proofs.Lanes.{isZero, zeros16, lane0, lane1, lane2, lane3}
+use Rattle.plans.proofs.Lanes.{isZero, not-zero, zeros16-lt, lane0, lane1, lane2, lane3}
 use Rattle.plans.proofs.Or16.{or16, or16-lt, or16-zero}
 use Rattle.plans.proofs.sum.Run.{significand9, smallW, largeW, lostW, exponentW, alignLanes, alignZ, lowestW, alignedW}
 use Rattle.plans.proofs.sum.Order.{InOrder, over, distance, D-lt, over-bit}
@@ -38,10 +38,6 @@ lanes-are K u e hK hu he =
   where
     regroup : (k p q r s : ℕ) → xorW (xorW (xorW (xorW k p) q) r) s ≡ xorW (xorW (xorW (xorW k p) r) s) q
     regroup k p q r s = simp xor·ring
-
-pub zeros-lt : (w : ℕ) → zeros16 w < 2 ^ 64
-unfolding zeros16
-zeros-lt w = and-lt 64 _ _ (and-lt 64 _ _ (and-lt 64 _ _ (and-lt 64 _ _ (not-lt w))))
 
 -- ---- B from w and the tests
 lowest-is : (w : ℕ) → lowestW w ≡ w % 2
@@ -84,18 +80,15 @@ aligned-word w Z hw hz =
     ∙ ap₂ (λ (x y : ℕ). x * 2 + y) (and-run 63 w T hw ∙ ap (λ (x : ℕ). x * w) (mask-bit Z)) (and-bits s e hs he)
 
 -- ---- the cases, on numbers
-pub positive : (x : ℕ) → 0 < x → isZero x ≡ 0
-positive x h = omega arith
-
 -- a zero: the tests of bits 16 and 48 agree
 nothing : (u Q x : ℕ) → (isZero (u * 2 ^ 11 + 0) + isZero u) % 2 * Q * 2 + min (1 - isZero x) (1 - isZero 0) ≡ 0
 nothing zero Q x = omega arith
-nothing (suc u) Q x = ap₂ (λ (p q : ℕ). (p + q) % 2 * Q * 2 + min (1 - isZero x) 0) (positive (suc u * 2 ^ 11 + 0) (omega arith)) (positive (suc u) (omega arith)) ∙ omega arith
+nothing (suc u) Q x = ap₂ (λ (p q : ℕ). (p + q) % 2 * Q * 2 + min (1 - isZero x) 0) (not-zero (suc u * 2 ^ 11 + 0) (omega arith)) (not-zero (suc u) (omega arith)) ∙ omega arith
 
 some : (u e Q x : ℕ) → 0 < e → (isZero (u * 2 ^ 11 + e) + isZero u) % 2 * Q * 2 + min (1 - isZero (x + u)) (1 - isZero e) ≡ isZero u * Q * 2 + (1 - isZero (x + u))
 some u e Q x h =
     let f : (0 + isZero u) % 2 ≡ isZero u = omega arith in
-    ap₂ (λ (p q : ℕ). (p + isZero u) % 2 * Q * 2 + min (1 - isZero (x + u)) (1 - q)) (positive (u * 2 ^ 11 + e) (omega arith)) (positive e h)
+    ap₂ (λ (p q : ℕ). (p + isZero u) % 2 * Q * 2 + min (1 - isZero (x + u)) (1 - q)) (not-zero (u * 2 ^ 11 + e) (omega arith)) (not-zero e h)
     ∙ ap (λ (p : ℕ). p * Q * 2 + min (1 - isZero (x + u)) 1) f ∙ ap (λ (p : ℕ). isZero u * Q * 2 + p) (omega arith)
 
 near : (Q x r : ℕ) → isZero x ≡ isZero r → isZero 0 * Q * 2 + (1 - isZero (x + 0)) ≡ 2 * Q + min r 1
@@ -105,7 +98,7 @@ near Q x r h = ap (λ (p : ℕ). 1 * Q * 2 + (1 - p)) (ap isZero (add-zero x) �
     back Q r = omega arith
 
 far : (u Q x : ℕ) → 0 < u → isZero u * Q * 2 + (1 - isZero (x + u)) ≡ 1
-far u Q x h = ap₂ (λ (p q : ℕ). p * Q * 2 + (1 - q)) (positive u h) (positive (x + u) (omega arith)) ∙ omega arith
+far u Q x h = ap₂ (λ (p q : ℕ). p * Q * 2 + (1 - q)) (not-zero u h) (not-zero (x + u) (omega arith)) ∙ omega arith
 
 -- ---- the operands a and b in order, D apart
 module _ (a b D : ℕ) (o : InOrder a b D) where
@@ -216,7 +209,7 @@ module _ (a b D : ℕ) (o : InOrder a b D) where
 
   pub Z-lt : alignZ D (smallW D (xorW a b) (significand9 b)) b < 2 ^ 64
   unfolding alignZ
-  Z-lt = zeros-lt (alignLanes (or16 (xorW (lostW D (smallW D (xorW a b) (significand9 b))) (shrW D 58))) (shrW D 58) (exponentW b))
+  Z-lt = zeros16-lt (alignLanes (or16 (xorW (lostW D (smallW D (xorW a b) (significand9 b))) (shrW D 58))) (shrW D 58) (exponentW b))
 
   pub no-exponent : bit (alignZ D (smallW D (xorW a b) (significand9 b)) b) 32 ≡ isZero (expo b)
   unfolding Z w₄

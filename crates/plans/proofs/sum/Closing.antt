@@ -1,5 +1,5 @@
 -- The sum's plan, from the number z = A ± B to the result: its bits 62..0 are binary64's `encoded`, nothing for z = 0, and the sign is the larger
--- operand's, except that a minus is dropped where the result is exactly zero. Rests on SumNormal, SumTests and SumResult.
+-- operand's, except that a minus is dropped where the result is exactly zero. Rests on Normal, Tests and Result.
 use mathlib.Core.Path.{_≡_, refl, sym, ap, ap₂, _∙_, subst}
 use mathlib.Core.Logic.{_⊎_, inl, inr}
 use Prim.Native.Nat.{ℕ, suc, _+_, _-_, _*_, _/_, _%_, _^_, _≤_, _<_}
@@ -15,10 +15,9 @@ use Rattle.binary64.specs.Number.{expo, signed}
 use Rattle.binary64.specs.Steps.{encoded}
 use Rattle.binary64.proofs.Cases.{pow-lt-back}
 use Rattle.binary64.proofs.Encode.{to-top, encoded-lt}
-use Rattle.plans.proofs.Lanes.{isZero, zeros16}
+use Rattle.plans.proofs.Lanes.{isZero, not-zero, zeros16, zeros16-lt}
 use Rattle.plans.proofs.Shifts.{exponent}
 use Rattle.plans.proofs.sum.Run.{exponentW, leadingW, normalW, lessW, resultLanes, roundedW, chosenW, closing}
-use Rattle.plans.proofs.sum.Align.{positive, zeros-lt}
 use Rattle.plans.proofs.sum.Leading.{leading-lt}
 use Rattle.plans.proofs.sum.Normal.{leading-some, leading-odd, normal-value, normal-places, normal-none}
 use Rattle.plans.proofs.sum.Tests.{dropped, minus, cancels, empty, result-tests}
@@ -45,7 +44,7 @@ module _ (a xy Z : ℕ) (ha : a < 2 ^ 64) (hx : xy < 2 ^ 64) (hZ : Z < 2 ^ 64) w
 
     T-lt : T < 2 ^ 64
     unfolding T
-    T-lt = zeros-lt (resultLanes (normalW z .value) v a xy (leadingW z) Z)
+    T-lt = zeros16-lt (resultLanes (normalW z .value) v a xy (leadingW z) Z)
 
     -- the result's sign: a's, and plus where one of the two tests drops a minus
     pub kept : ℕ
@@ -105,7 +104,7 @@ module _ (a xy Z : ℕ) (ha : a < 2 ^ 64) (hx : xy < 2 ^ 64) (hZ : Z < 2 ^ 64) w
     -- like signs
     pub kept-like : xy / 2 ^ 63 ≡ 0 → kept z ≡ a / 2 ^ 63
     unfolding empty cancels minus
-    kept-like e = kept-by 0 0 (a / 2 ^ 63) (positive _ (omega arith)) (positive _ (omega arith)) refl ∙ low (a / 2 ^ 63) (omega arith)
+    kept-like e = kept-by 0 0 (a / 2 ^ 63) (not-zero _ (omega arith)) (not-zero _ (omega arith)) refl ∙ low (a / 2 ^ 63) (omega arith)
       where
         low : (x : ℕ) → x < 2 → (0 + x) % 2 ≡ x
         low x h = omega arith
@@ -113,22 +112,22 @@ module _ (a xy Z : ℕ) (ha : a < 2 ^ 64) (hx : xy < 2 ^ 64) (hZ : Z < 2 ^ 64) w
     -- the larger is plus
     pub kept-plus : a / 2 ^ 63 ≡ 0 → kept z ≡ 0
     unfolding empty cancels minus
-    kept-plus e = kept-by 0 0 0 (positive _ (omega arith)) (positive _ (omega arith)) e
+    kept-plus e = kept-by 0 0 0 (not-zero _ (omega arith)) (not-zero _ (omega arith)) e
 
     -- the larger is minus, and the signs differ
     module _ (s : a / 2 ^ 63 ≡ 1) (d : xy / 2 ^ 63 ≡ 1) where
       pub kept-cancel : bit (leadingW z) 0 ≡ 1 → bit Z 32 ≡ 0 → kept z ≡ 0
       unfolding empty cancels minus
-      kept-cancel l b = kept-by 0 1 1 (positive _ (omega arith)) (vanished _ (omega arith)) s
+      kept-cancel l b = kept-by 0 1 1 (not-zero _ (omega arith)) (vanished _ (omega arith)) s
 
       pub kept-empty : bit (leadingW z) 0 ≡ 0 → bit Z 32 ≡ 1 → v z / 2 ^ 63 ≡ 1 → kept z ≡ 0
       unfolding empty cancels minus
-      kept-empty l b n = kept-by 1 0 1 (vanished _ (omega arith)) (positive _ (omega arith)) s
+      kept-empty l b n = kept-by 1 0 1 (vanished _ (omega arith)) (not-zero _ (omega arith)) s
 
       pub kept-some : bit (leadingW z) 0 ≡ 0 → (bit Z 32 ≡ 0) ⊎ (v z / 2 ^ 63 ≡ 0) → kept z ≡ 1
       unfolding empty cancels minus
-      kept-some l (inl b) = kept-by 0 0 1 (positive _ (omega arith)) (positive _ (omega arith)) s
-      kept-some l (inr n) = kept-by 0 0 1 (positive _ (omega arith)) (positive _ (omega arith)) s
+      kept-some l (inl b) = kept-by 0 0 1 (not-zero _ (omega arith)) (not-zero _ (omega arith)) s
+      kept-some l (inr n) = kept-by 0 0 1 (not-zero _ (omega arith)) (not-zero _ (omega arith)) s
 
 -- ---- leading zeros of a number below 2^63, and of one from 2^62 on
 pub lowest-none : (z : ℕ) → z < 2 ^ 64 → 0 < z → bit (leadingW z) 0 ≡ 0

@@ -25,11 +25,11 @@ use Rattle.plain.specs.Machine.{run}
 use Rattle.plans.specs.Computes.{Computes}
 use Rattle.plans.specs.SumPlan.{sumSteps, sumPlan}
 use Rattle.plans.proofs.WellFormed.{none-bad}
-use Rattle.plans.proofs.Lanes.{isZero}
+use Rattle.plans.proofs.Lanes.{isZero, not-zero}
 use Rattle.plans.proofs.sum.Run.{significand9, smallW, alignZ, addedW, leadingW, normalW, lessW, closing, sumW, sumModel, sum-run, sum-good, sum-length, apartW}
 use Rattle.plans.proofs.sum.Order.{InOrder, apart-yes, larger-yes, smaller-yes, apart-no, larger-no, smaller-no}
 use Rattle.plans.proofs.sum.Shift.{significand10-is}
-use Rattle.plans.proofs.sum.Align.{positive, Z-lt, no-exponent, aligned-is}
+use Rattle.plans.proofs.sum.Align.{Z-lt, no-exponent, aligned-is}
 use Rattle.plans.proofs.sum.Result.{added-like, added-unlike, less-some, less-none}
 use Rattle.plans.proofs.sum.Closing.{v, kept, v-some, closing-some, closing-none, kept-like, kept-plus, kept-cancel, kept-empty, kept-some, lowest-none, lowest-all, one-zero}
 
@@ -188,7 +188,7 @@ module _ (a b D : ℕ) (o : InOrder a b D) where
           let k : sign-of 0 ≡ 0 =
           elim (sign-cases a (o .wordA)) [
             | inl s ↦ kept-plus a xy Z (o .wordA) xy-lt Z-word 0 s
-            | inr s ↦ kept-cancel a xy Z (o .wordA) xy-lt Z-word 0 s (differs ∙ other u) lowest-all (no-b ∙ positive (expo b) some-b)
+            | inr s ↦ kept-cancel a xy Z (o .wordA) xy-lt Z-word 0 s (differs ∙ other u) lowest-all (no-b ∙ not-zero (expo b) some-b)
           ] in
           ap finish (less ∙ z) ∙ closing-none a xy Z (o .wordA) xy-lt Z-word ∙ ap (λ (x : ℕ). x * 2 ^ 63) k ∙ sym (cancelled a b (o .le) n u z)
 
@@ -207,7 +207,7 @@ module _ (a b D : ℕ) (o : InOrder a b D) where
                 v-some a xy Z (o .wordA) xy-lt Z-word (A - B) z64 p ∙ ap (λ (x : ℕ). lessW (expo a) (leadingZeros 64 x)) m
                 ∙ ap (lessW (expo a)) (one-zero A A-lo A-hi) ∙ less-some (expo a) 1 e-pos (mod-lt (a / 2 ^ 52) (omega arith)) in
                 inr (ap (λ (x : ℕ). x / 2 ^ 63) w ∙ small (expo a) (mod-lt (a / 2 ^ 52) (omega arith)))
-            | inr q ↦ inl (no-b ∙ positive (expo b) q)
+            | inr q ↦ inl (no-b ∙ not-zero (expo b) q)
           ] in
           let k : sign-of (A - B) ≡ sign a =
           elim (sign-cases a (o .wordA)) [

@@ -1,5 +1,5 @@
 -- The sum's plan, z brought to its top bit in six stages: they shift it by the count of its leading zeros, and collect that count.
--- One law over the stage; rests on SumLeading and Fields.
+-- One law over the stage; rests on Leading and Fields.
 use mathlib.Core.Path.{_≡_, refl, sym, ap, ap₂, _∙_, subst}
 use mathlib.Core.Logic.{inl, inr}
 use Prim.Native.Nat.{ℕ, zero, suc, _+_, _-_, _*_, _/_, _%_, _^_, _≤_, _<_}

@@ -1,5 +1,5 @@
 -- The sum's plan, order: one addition tells which operand is larger by its bits 62..0, and how far apart the exponents are.
--- Rests on SumRun and Fields.
+-- Rests on Run and Fields.
 use mathlib.Core.Path.{_≡_, refl, sym, ap, ap₂, _∙_}
 use Prim.Native.Nat.{ℕ, _+_, _-_, _*_, _/_, _%_, _^_, _≤_, _<_}
 use native.Mathlib.Nat.{add-mod, add-assoc}

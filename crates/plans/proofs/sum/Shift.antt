@@ -1,5 +1,5 @@
 -- The sum's plan, the smaller significand W shifted right by k = β + (t mod 64): the quotient, and the bits lost that count.
--- The first shifts are by 8 places at most, and W is a multiple of 2^9; the later ones put aside what they drop. Rests on SumRun and Fields.
+-- The first shifts are by 8 places at most, and W is a multiple of 2^9; the later ones put aside what they drop. Rests on Run and Fields.
 use mathlib.Core.Path.{_≡_, refl, sym, ap, ap₂, _∙_, subst}
 use Prim.Native.Nat.{ℕ, zero, suc, _+_, _-_, _*_, _/_, _%_, _^_, _<_}
 use native.Mathlib.Nat.{mod-lt, mod-eq-of-lt, add-comm, add-zero, zero-mul, one-mul, mul-assoc, div-one, lt-of-le-of-lt, mul-pos, zero-mod}
