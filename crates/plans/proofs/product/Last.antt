@@ -15,7 +15,7 @@ use Rattle.binary64.specs.Product.{product}
 use Rattle.binary64.specs.Steps.{roundNE, packed}
 use Rattle.binary64.proofs.Cases.{lt-or-ge}
 use Rattle.binary64.proofs.Round.{bits-lt}
-use Rattle.plans.proofs.Lanes.{isZero, zeros16}
+use Rattle.plans.proofs.Lanes.{isZero, not-zero, zeros16}
 use Rattle.plans.proofs.Or16.{or16, or16-lt, or16-zero}
 use Rattle.plans.proofs.RoundAdd.{round-tie}
 use Rattle.plans.proofs.product.Operands.{expo-lt, signif}
@@ -33,10 +33,7 @@ none-right : (m z : ℕ) → m * min z (1 - isZero 0) ≡ 0
 none-right m z = let e : min z (1 - isZero 0) ≡ 0 = omega arith in ap (λ (k : ℕ). m * k) e ∙ mul-zero m
 
 both-kept : (m a b : ℕ) → m * min (1 - isZero (suc a)) (1 - isZero (suc b)) ≡ m
-both-kept m a b = ap₂ (λ (i j : ℕ). m * min (1 - i) (1 - j)) (positive a) (positive b) ∙ mul-one m
-  where
-    positive : (a : ℕ) → isZero (suc a) ≡ 0
-    positive a = omega arith
+both-kept m a b = ap₂ (λ (i j : ℕ). m * min (1 - i) (1 - j)) (not-zero (suc a) (omega arith)) (not-zero (suc b) (omega arith)) ∙ mul-one m
 
 -- ---- the last segments, from p, R and low = l · 2^11
 module _ (x y p l R : ℕ) (hl : l < 2 ^ 53) (n : Normalised x y p R (l * 2 ^ 11) (l % 2 ^ 41)) where

@@ -1,5 +1,5 @@
 -- The product of the significands brought to its top bit: p = h · 2^53 + l has its top bit at 104 or at 105. What is kept of it, the first bit
--- dropped and whether a later one is set, from the plan's words. Rests on End, Fields, Shifts and Or16.
+-- dropped and whether a later one is set, from the plan's words. Rests on End, Fields, Shifts and Lanes.
 use mathlib.Core.Path.{_≡_, refl, sym, ap, ap₂, _∙_, subst}
 use Prim.Native.Nat.{ℕ, suc, _+_, _-_, _*_, _/_, _%_, _^_, _≤_, _<_}
 use mathlib.Core.Logic.{inl, inr}

@@ -1,5 +1,5 @@
 -- The sum's plan, the result: the sum or difference, the exponent, rounding by one addition, and the choice by range and sign.
--- Bits 62..0 are binary64's `encodedAt`. Rests on Tests, RoundAdd and binary64's Steps.
+-- Bits 62..0 are binary64's `encodedAt`. Rests on Align, Tests, RoundAdd and binary64's Steps.
 use mathlib.Core.Path.{_≡_, refl, sym, ap, ap₂, _∙_, subst}
 use mathlib.Core.Logic.{inl, inr}
 use Prim.Native.Nat.{ℕ, _+_, _-_, _*_, _/_, _%_, _^_, _≤_, _<_, min}

@@ -1,5 +1,5 @@
 -- The sum's plan, the four last tests: whether to round up, whether E is 2047 or more, and the two cases in which a minus sign is dropped.
--- Rests on Run, Fields and Lanes.
+-- Rests on Run, Align, Fields and Lanes.
 use mathlib.Core.Path.{_≡_, refl, ap, ap₂, _∙_}
 use Prim.Native.Nat.{ℕ, _+_, _-_, _*_, _/_, _%_, _^_, _<_}
 use native.Mathlib.Nat.{mod-lt, lt-of-lt-of-le}
