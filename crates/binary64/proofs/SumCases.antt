@@ -111,7 +111,6 @@ added e F (suc y) G o =
 -- The difference of the aligned significands, W - U, for magnitudes A and B: never below zero; zero exactly where the magnitudes are equal.
 pub record Parts (W U A B e : ℕ) : Type 0 where
   pub fits : U ≤ W
-  pub order : B ≤ A
   pub none : W - U ≡ 0 → A ≡ B
   pub some : 0 < W - U → B < A
   pub bits : 0 < W - U → magBits 52 (A - B) ≡ encoded (W - U) e
@@ -119,11 +118,11 @@ pub record Parts (W U A B e : ℕ) : Type 0 where
 abbrev pub Subtracted : ℕ → ℕ → ℕ → ℕ → Type 0
 Subtracted e F D G = Parts ((2 ^ 52 + F) * 2 ^ 10) (alignedOf (suc e - D) D G) (magnitudeOf (suc e) F) (magnitudeOf D G) (suc e)
 
-parts : (W U A B e : ℕ) → U ≤ W → B ≤ A → (w : ℕ) → ((W - U ≡ 0) × (w ≡ 0) × (A ≡ B)) ⊎ ((0 < W - U) × (0 < w) × (B < A))
+parts : (W U A B e : ℕ) → U ≤ W → (w : ℕ) → ((W - U ≡ 0) × (w ≡ 0) × (A ≡ B)) ⊎ ((0 < W - U) × (0 < w) × (B < A))
     → (0 < w → magBits 52 (A - B) ≡ encoded (W - U) e) → Parts W U A B e
-parts W U A B e f o w (inl h) k =
-    record { fits = f; order = o; none = λ z. h .2; some = λ z. absurd (omega (arith, h .0)); bits = λ z. absurd (omega (arith, h .0)) }
-parts W U A B e f o w (inr h) k = record { fits = f; order = o; none = λ z. absurd (omega (arith, h .0)); some = λ z. h .2; bits = λ z. k (h .1) }
+parts W U A B e f w (inl h) k =
+    record { fits = f; none = λ z. h .2; some = λ z. absurd (omega (arith, h .0)); bits = λ z. absurd (omega (arith, h .0)) }
+parts W U A B e f w (inr h) k = record { fits = f; none = λ z. absurd (omega (arith, h .0)); some = λ z. h .2; bits = λ z. k (h .1) }
 
 -- from the difference w of the significands, A - B = w · 2^y and Z = jam d (w · 2^9)
 difference : (A B w p Z d : ℕ) → 0 < p → B ≤ A → w * p ≡ A - B → jam d (w * 2 ^ 9) ≡ Z → ((Z ≡ 0) × (w ≡ 0) × (A ≡ B)) ⊎ ((0 < Z) × (0 < w) × (B < A))
@@ -145,7 +144,6 @@ subtracted e F zero G o =
     let z : X * 2 ^ 10 - 0 ≡ X * 2 ^ 10 = sub-zero (X * 2 ^ 10) in
     record {
       fits = zero-le;
-      order = zero-le;
       none = λ h. absurd (omega arith);
       some = λ h. p;
       bits = λ h.
@@ -172,7 +170,7 @@ subtracted e F (suc y) G o =
     let case : ((X * 2 ^ 10 - jam (e - y) (Y * 2 ^ 9) ≡ 0) × (X * 2 ^ (e - y) - Y ≡ 0) × (X * 2 ^ e ≡ Y * 2 ^ y)) ⊎ ((0 < X * 2 ^ 10 - jam (e - y) (Y * 2 ^ 9)) × (0 < X * 2 ^ (e - y) - Y) × (Y * 2 ^ y < X * 2 ^ e)) =
     difference (X * 2 ^ e) (Y * 2 ^ y) (X * 2 ^ (e - y) - Y) (2 ^ y) (X * 2 ^ 10 - jam (e - y) (Y * 2 ^ 9)) (e - y) (pow-pos y) order se sj in
     subst (λ (u : ℕ). Parts (X * 2 ^ 10) (jam u (Y * 2 ^ 9)) (X * 2 ^ e) (Y * 2 ^ y) (suc e)) (sym d)
-    (parts (X * 2 ^ 10) (jam (e - y) (Y * 2 ^ 9)) (X * 2 ^ e) (Y * 2 ^ y) (suc e) al order (X * 2 ^ (e - y) - Y) case
+    (parts (X * 2 ^ 10) (jam (e - y) (Y * 2 ^ 9)) (X * 2 ^ e) (Y * 2 ^ y) (suc e) al (X * 2 ^ (e - y) - Y) case
     (λ pos.
     let S : Stands 52 (X * 2 ^ (e - y + y) - Y * 2 ^ y) (X * 2 ^ 10 - jam (e - y) (Y * 2 ^ 9)) (suc (e - y + y)) = sub-stands X Y (e - y) y lx hy ord pos in
     let S′ : Stands 52 (X * 2 ^ e - Y * 2 ^ y) (X * 2 ^ 10 - jam (e - y) (Y * 2 ^ 9)) (suc e) = subst (λ (u : ℕ). Stands 52 (X * 2 ^ u - Y * 2 ^ y) (X * 2 ^ 10 - jam (e - y) (Y * 2 ^ 9)) (suc u)) dy S in
