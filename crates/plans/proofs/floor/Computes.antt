@@ -28,7 +28,7 @@ use Rattle.plans.proofs.WellFormed.{none-bad}
 use Rattle.plans.proofs.Fields.{low-bits, spread-run-at, clear-low}
 use Rattle.plans.proofs.Lanes.{zeros16}
 use Rattle.plans.proofs.floor.FractionMask.{maskW, maskU}
-use Rattle.plans.proofs.floor.Head.{lanesOf, floor-head}
+use Rattle.plans.proofs.floor.Head.{lanesOf, rounding-head}
 
 -- ---- the steps after the masks
 unfoldable pub roundDown : ℕ → ℕ → ℕ → ℕ
@@ -146,7 +146,7 @@ module _ (x : ℕ) (hx : x < 2 ^ 64) where
   floor-model : floorModel x ≡ floor x
   unfolding floorModel
   floor-model =
-      let m = floor-head x hx in
+      let m = rounding-head x 0 (lanesOf x) hx (omega arith) (omega arith) in
       elim (lt-or-ge (expo x) 1023) [
         | inl l ↦ ap₂ (roundDown x) (m .below l .0) (m .below l .1) ∙ floor-below l
         | inr g ↦ ap₂ (roundDown x) (m .above g .0) (m .above g .1) ∙ floor-above g

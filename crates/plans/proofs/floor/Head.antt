@@ -1,5 +1,5 @@
--- The head of floor's plan as a whole: the lanes that the steps of specs/FractionMask pack and test are the tests of E, and the masks W and
--- U follow (`floor-head`).
+-- The head of floor's plan as a whole: the lanes that the steps of specs/FractionMask pack and test are the tests of E, whatever stands in
+-- the fourth lane, and the masks W and U follow (`rounding-head`).
 -- Rests on Fields, Lanes and FractionMask.
 use mathlib.Core.Path.{_≡_, refl, ap, ap₂, _∙_}
 use Prim.Native.Nat.{ℕ, _+_, _*_, _/_, _^_, _<_}
@@ -53,18 +53,16 @@ module _ (x : ℕ) where
       ∙ ap (λ (y : ℕ). xorW y (shlW (oneLane (expo x)) 32)) (pack 16 16 (wideLane (expo x)) (narrowLane (expo x)) wide-lt narrow-lt (omega arith))
       ∙ pack 16 32 (narrowLane (expo x) * 2 ^ 16 + wideLane (expo x)) (oneLane (expo x)) (omega (arith, wide-lt, narrow-lt)) one-lt (omega arith)
 
-  -- the fourth lane is empty
-  tested : Tested (expo x) (zeros16 (lanesOf x))
-  tested =
-      let w : ℕ = wideLane (expo x) in
-      let n : ℕ = narrowLane (expo x) in
-      let o : ℕ = oneLane (expo x) in
-      let e : lanesOf x ≡ 0 * 2 ^ 48 + (o * 2 ^ 32 + (n * 2 ^ 16 + w)) = lanes-are ∙ omega arith in
+  -- with any d in the fourth lane, which is free for one more test
+  pub tested : (d w : ℕ) → d < 2 ^ 16 → w ≡ d * 2 ^ 48 + lanesOf x → Tested (expo x) (zeros16 w)
+  tested d w hd e =
+      let s : w ≡ d * 2 ^ 48 + (oneLane (expo x) * 2 ^ 32 + (narrowLane (expo x) * 2 ^ 16 + wideLane (expo x))) = e ∙ ap (λ (y : ℕ). d * 2 ^ 48 + y) lanes-are in
       record {
-        wide = lane0 w n o 0 (lanesOf x) wide-lt narrow-lt one-lt (omega arith) e ∙ ap isZero (shifted (expo x) 1024 6);
-        narrow = lane1 w n o 0 (lanesOf x) wide-lt narrow-lt one-lt (omega arith) e ∙ ap isZero (shifted (expo x) 1024 5);
-        one = lane2 w n o 0 (lanesOf x) wide-lt narrow-lt one-lt (omega arith) e;
+        wide = lane0 (wideLane (expo x)) (narrowLane (expo x)) (oneLane (expo x)) d w wide-lt narrow-lt one-lt hd s ∙ ap isZero (shifted (expo x) 1024 6);
+        narrow = lane1 (wideLane (expo x)) (narrowLane (expo x)) (oneLane (expo x)) d w wide-lt narrow-lt one-lt hd s ∙ ap isZero (shifted (expo x) 1024 5);
+        one = lane2 (wideLane (expo x)) (narrowLane (expo x)) (oneLane (expo x)) d w wide-lt narrow-lt one-lt hd s;
       }
 
-  pub floor-head : x < 2 ^ 64 → Masks (expo x) (maskW x (zeros16 (lanesOf x))) (maskU x (zeros16 (lanesOf x)))
-  floor-head hx = fraction-masks x (zeros16 (lanesOf x)) hx tested
+  -- the head as a whole: the masks, with d in the fourth lane (nothing, for d = 0)
+  pub rounding-head : (d w : ℕ) → x < 2 ^ 64 → d < 2 ^ 16 → w ≡ d * 2 ^ 48 + lanesOf x → Masks (expo x) (maskW x (zeros16 w)) (maskU x (zeros16 w))
+  rounding-head d w hx hd e = fraction-masks x (zeros16 w) hx (tested d w hd e)
