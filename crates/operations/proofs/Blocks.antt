@@ -11,7 +11,7 @@ use Rattle.masking.proofs.emitted.Places.{share-register, share-helper}
 use Rattle.operations.specs.declared.gadgets.once.Place.{Place}
 use Rattle.operations.specs.declared.gadgets.once.Op.{Op}
 use Rattle.operations.specs.declared.gadgets.once.Op.the-variants as op
-use Rattle.operations.specs.Gadgets.{Enough, OfPlan, Ran, Register, Still, andSteps, at, crossed, helperAt, onceStep, placeY, placeZ}
+use Rattle.operations.specs.Gadgets.{Enough, OfPlan, Ran, Register, Still, andSteps, at, crossed, onceStep, placeY, placeZ}
 use Rattle.operations.proofs.Running.{still-ran}
 use Rattle.operations.proofs.Once.{once-rands}
 
@@ -25,6 +25,10 @@ cellsOf r i = shareCell i r
 pub record Named (p : Place) (r : ℕ) : Type 0 where
   pub same : at p ≡ cellsOf r
   pub register : Register p
+
+-- helper register h of ADD
+abbrev pub helperAt : ℕ → Place
+helperAt h = record { base = 288 + h; stride = 8 }
 
 helper-same : (h : ℕ) → at (helperAt h) ≡ cellsOf (32 + h)
 helper-same h = λ k i. by i k

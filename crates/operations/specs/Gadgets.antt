@@ -109,13 +109,14 @@ abbrev pub crossedPair : ℕ → ℕ → ℕ → ℕ → ℕ → List ℕ → Li
 crossedPair p q i j r cells =
     stored i j r (andW (getD cells p 0) (getD cells (256 + j) 0)) (andW (getD cells q 0) (getD cells (256 + i) 0)) cells
 
--- masking's andBlock, with the cells of d, a and b
+-- AND's scratch: share i of y and of z
 abbrev pub placeY : Place
 placeY = record { base = 256; stride = 1 }
 
 abbrev pub placeZ : Place
 placeZ = record { base = 264; stride = 1 }
 
+-- masking's andBlock, with the cells of d, a and b
 unfoldable pub andSteps : ℕ → (ℕ → ℕ) → (ℕ → ℕ) → (ℕ → ℕ) → List Step
 andSteps n d a b =
     map (onceStep (op.Shl 0) (at placeY) b b) (shares n)
@@ -127,10 +128,6 @@ andSteps n d a b =
 -- a register of a plan
 abbrev pub OfPlan : Place → Type 0
 OfPlan p = (p .base < 32) × (p .stride ≡ 32)
-
--- helper register h of ADD
-abbrev pub helperAt : ℕ → Place
-helperAt h = record { base = 288 + h; stride = 8 }
 
 -- ---- plan words
 
