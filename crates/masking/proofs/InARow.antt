@@ -1,7 +1,6 @@
 -- Share runs in a row: what a list of runs does to cells and places, run by run, whatever the tape holds.
 -- Rests on Counts for the tape words of steps in a row.
 use mathlib.Core.Path.{_≡_, refl, sym, ap, ap₂, _∙_, subst}
-use mathlib.Core.Bool.{not}
 use mathlib.Core.List.{List, [], _∷_, _++_}
 use Prim.Native.Nat.{ℕ, zero, suc, _+_, _-_, _≤_, _<_, min}
 use native.Mathlib.Nat.{add-assoc, add-zero, le-of-eq, zero-min, min-zero, suc-min-suc}
