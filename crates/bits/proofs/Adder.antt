@@ -66,6 +66,6 @@ module _ (a b : ℕ) (ha : a < 2 ^ 64) (hb : b < 2 ^ 64) where
       let e : c .G ≡ K = sym (through ∙ ap (λ (x : ℕ). xorW (c .G) (andW (c .P) x)) (shl-width K 0) ∙ ap (xorW (c .G)) (and-zero (c .P)) ∙ xor-zero (c .G)) in
       ap (λ (x : ℕ). xorW (xorW a b) (shlW x 1)) e ∙ ap (xorW (xorW a b)) up ∙ xor-cancel (xorW a b) (addW a b)
 
--- "ADD: a + b modulo 2^64", by the masked adder's own steps
+-- the masked adder's own steps give "a + b modulo 2^64"
 pub adder-sum : AdderAdds
 adder-sum = sums

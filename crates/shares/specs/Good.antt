@@ -1,4 +1,4 @@
--- Names for "no word is bad", cited by inner functions only: nothing here has to be believed.
+-- Names for good words, cited by inner functions only: nothing here has to be believed.
 use mathlib.Core.Path.{_≡_}
 use mathlib.Core.List.{List}
 use Prim.Native.Nat.{ℕ, _<_}

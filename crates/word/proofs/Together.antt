@@ -3,7 +3,7 @@
 use mathlib.Core.Path.{_≡_, refl, sym, ap, ap₂, _∙_}
 use mathlib.Core.Bool.{Bool, true, false, not, _&&_}
 use mathlib.Core.Logic.{_⊎_, inl, inr}
-use Prim.Native.Nat.{ℕ, zero, _+_, _*_, _/_, _%_, _^_, _<_}
+use Prim.Native.Nat.{ℕ, _+_, _*_, _/_, _%_, _^_, _<_}
 use native.Mathlib.Nat.{mod-mod, mod-lt, mod-eq-of-lt, lt-of-lt-of-le, div-lt-iff-lt-mul, div-add-mod, div-add-mod', div-div-eq-div-mul}
 use native.Mathlib.Omega.{arith}
 use lib.Dec.{T, ltb, eqb, ltb→lt, lt→ltb}
@@ -233,7 +233,7 @@ registers (Spread d a) = cell-and d (ltb a 32) (ltb a 512) (below-512 a)
 registers (Add d a b) = cells-and d a (ltb b 32) (ltb b 512) (below-512 b)
 registers (Rand d) = below-512 d
 
--- "no two words mean one step by accident", for plans and for share programs
+-- for plans and for share programs
 pub plan-exact : Exact inPlan
 plan-exact = exact inPlan (λ s h. registers s (both (not (eqb (kindNumber s) 9)) (within 32 s) h .1))
 

@@ -1,4 +1,4 @@
-// The table of kinds: what cell d becomes. Both machines go by it.
+// The table of kinds: what cell d becomes. The plain machine goes by it; share run and the gadgets are proved against the same definition.
 ghost use mathlib.Core.Path.{_≡_};
 ghost use Prim.Native.Nat.{ℕ, _+_, _%_, _^_};
 ghost use lib.ListN.{getD, set};
