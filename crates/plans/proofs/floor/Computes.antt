@@ -24,7 +24,7 @@ use Rattle.binary64.proofs.FloorModel.{floor-large, floor-small-plus, floor-sma
 use Rattle.plans.specs.Computes.{Computes}
 use Rattle.plans.specs.FloorPlan.{floorSteps, floorPlan}
 use Rattle.plans.proofs.Registers.{runSteps, allInPlan, run-steps, tab, tabbed}
-use Rattle.plans.proofs.WellFormed.{none-bad}
+use Rattle.plans.proofs.WellFormed.{none-bad, each-good}
 use Rattle.plans.proofs.Fields.{low-bits, spread-run-at, clear-low}
 use Rattle.plans.proofs.Lanes.{zeros16}
 use Rattle.plans.proofs.floor.FractionMask.{maskW, maskU}
@@ -161,4 +161,4 @@ floor-computes cells len small =
 
 pub floor-plan : Computes floorPlan (λ a b. floor a)
 unfolding floorPlan
-floor-plan = record { short = omega (arith, floor-length); none-bad = none-bad floorSteps floor-good; result = floor-computes }
+floor-plan = record { short = omega (arith, floor-length); none-bad = none-bad floorSteps floor-good; entries = each-good floorPlan (none-bad floorSteps floor-good); result = floor-computes }

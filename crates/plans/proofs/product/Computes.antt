@@ -14,7 +14,7 @@ use Rattle.plain.specs.Machine.{run}
 use Rattle.plans.specs.Computes.{Computes}
 use Rattle.plans.specs.ProductPlan.{productHead, carryRow, productRow, productRows, withExponents, highHalf, normalise, sticky, tests, roundPack, choose, productEnd, productTail, productSteps, productPlan}
 use Rattle.plans.proofs.Registers.{runSteps, run-steps, run-append, allInPlan}
-use Rattle.plans.proofs.WellFormed.{none-bad}
+use Rattle.plans.proofs.WellFormed.{none-bad, each-good}
 use Rattle.plans.proofs.product.Operands.{signif}
 use Rattle.plans.proofs.product.High.{High, high-half, product-lt, product-ge}
 use Rattle.plans.proofs.product.End.{endW, end-run}
@@ -53,4 +53,4 @@ product-computes cells len words =
 -- what holds of the plan
 pub product-plan : Computes productPlan product
 unfolding productPlan
-product-plan = record { short = omega (arith, product-length); none-bad = none-bad productSteps product-good; result = product-computes }
+product-plan = record { short = omega (arith, product-length); none-bad = none-bad productSteps product-good; entries = each-good productPlan (none-bad productSteps product-good); result = product-computes }

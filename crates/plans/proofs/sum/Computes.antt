@@ -24,7 +24,7 @@ use Rattle.binary64.proofs.SumCases.{sum-comm, zeros-like, zeros-unlike, like-s
 use Rattle.plain.specs.Machine.{run}
 use Rattle.plans.specs.Computes.{Computes}
 use Rattle.plans.specs.SumPlan.{sumSteps, sumPlan}
-use Rattle.plans.proofs.WellFormed.{none-bad}
+use Rattle.plans.proofs.WellFormed.{none-bad, each-good}
 use Rattle.plans.proofs.Lanes.{isZero, not-zero}
 use Rattle.plans.proofs.sum.Run.{significand9, smallW, alignZ, addedW, leadingW, normalW, lessW, closing, sumW, sumModel, sum-run, sum-good, sum-length, apartW}
 use Rattle.plans.proofs.sum.Order.{InOrder, apart-yes, larger-yes, smaller-yes, apart-no, larger-no, smaller-no}
@@ -269,4 +269,4 @@ sum-computes cells h w = sum-run cells h ∙ model-sum (getD cells 0 0) (getD ce
 -- what holds of the plan
 pub sum-plan : Computes sumPlan sum
 unfolding sumPlan
-sum-plan = record { short = omega (arith, sum-length); none-bad = none-bad sumSteps sum-good; result = sum-computes }
+sum-plan = record { short = omega (arith, sum-length); none-bad = none-bad sumSteps sum-good; entries = each-good sumPlan (none-bad sumSteps sum-good); result = sum-computes }
