@@ -1,20 +1,23 @@
--- The built-in plans are not too long and have no bad word. Rests on plans' Computes and WellFormed.
-use native.Mathlib.Omega.{arith}
-use Rattle.plans.specs.ProductPlan.{productPlan, productSteps}
+-- The built-in plans are not too long and have no bad word. Rests on plans' Computes.
+use mathlib.Core.List.{List}
+use Prim.Native.Nat.{ℕ}
+use Rattle.plans.specs.Computes.{Computes}
+use Rattle.plans.specs.ProductPlan.{productPlan}
 use Rattle.plans.specs.SumPlan.{sumPlan}
 use Rattle.plans.specs.FloorPlan.{floorPlan}
-use Rattle.plans.proofs.WellFormed.{none-bad}
-use Rattle.plans.proofs.product.Computes.{product-good, product-length}
+use Rattle.plans.proofs.product.Computes.{product-plan}
 use Rattle.plans.proofs.sum.Computes.{sum-plan}
 use Rattle.plans.proofs.floor.Computes.{floor-plan}
 use Rattle.operations.specs.Gadgets.{GoodPlan}
 
+good : {plan : List ℕ} {op : ℕ → ℕ → ℕ} → Computes plan op → GoodPlan plan
+good C = record { short = C .short; good = C .none-bad }
+
 pub good-product : GoodPlan productPlan
-unfolding productPlan
-good-product = record { short = omega (arith, product-length); good = none-bad productSteps product-good }
+good-product = good product-plan
 
 pub good-sum : GoodPlan sumPlan
-good-sum = record { short = sum-plan .short; good = sum-plan .none-bad }
+good-sum = good sum-plan
 
 pub good-floor : GoodPlan floorPlan
-good-floor = record { short = floor-plan .short; good = floor-plan .none-bad }
+good-floor = good floor-plan
