@@ -1,0 +1,26 @@
+/* Random input: plans and share programs, good and bad words, bad share counts, and the number that a combination of conditions expects. */
+#ifndef INPUT_H
+#define INPUT_H
+
+#include <stdbool.h>
+#include <stddef.h>
+#include <stdint.h>
+
+uint32_t plan_word_of(unsigned kind);
+void random_plan(uint32_t *plan, size_t len);
+uint32_t random_share_word(void);
+void random_program(uint32_t *program, size_t len);
+
+/* A bad word of a plan, or of a share program: a good one with one rule broken. */
+uint32_t bad_plan_word(void);
+uint32_t bad_share_word(void);
+
+/* A plan of good words; where asked too long, where asked with bad words from a random place on. */
+size_t plan_with(uint32_t *plan, bool too_long, bool bad);
+
+size_t bad_share_count(void);
+
+/* The lowest condition of a combination is the number to expect: bit i of `mask` stands for numbers[i]. */
+uint32_t lowest(unsigned mask, const uint32_t *numbers, size_t count);
+
+#endif

@@ -1,0 +1,164 @@
+/* Groups: plain operations, plan copies. */
+#include <math.h>
+#include <string.h>
+
+#include "calls.h"
+#include "check.h"
+#include "operands.h"
+#include "tests.h"
+
+/* ---- Plain operations, against the reference and native doubles ---- */
+
+static double as_double(uint64_t bits) {
+    double number;
+    memcpy(&number, &bits, sizeof number);
+    return number;
+}
+
+static uint64_t as_bits(double number) {
+    uint64_t bits;
+    memcpy(&bits, &number, sizeof bits);
+    return bits;
+}
+
+/* Operands on which document 01 and IEEE 754 agree: normal numbers and true zeros. */
+static bool ordinary(uint64_t x) {
+    uint64_t exponent = x >> 52 & 2047;
+    return (exponent >= 1 && exponent <= 2046) || x << 1 == 0;
+}
+
+/* Results on which they may differ: subnormals, and 2^-1022, which rounding alone may have reached. */
+static bool near_underflow(uint64_t x) {
+    return x << 1 != 0 && x << 1 <= UINT64_C(2) << 52;
+}
+
+static unsigned long natives;
+
+static void try_native(uint64_t a, uint64_t b) {
+    volatile double x = as_double(a), y = as_double(b); /* no contraction, no folding */
+    if (ordinary(a) && ordinary(b)) {
+        uint64_t product = as_bits(x * y), sum = as_bits(x + y);
+        if (!near_underflow(product)) {
+            CHECK(lubewon_product(a, b) == product, "product of %016lX, %016lX differs from native %016lX", a, b, product);
+            natives++;
+        }
+        if (!near_underflow(sum)) {
+            CHECK(lubewon_sum(a, b) == sum, "sum of %016lX, %016lX differs from native %016lX", a, b, sum);
+            natives++;
+        }
+    }
+    if (ordinary(a) && a != UINT64_C(1) << 63) {
+        uint64_t whole = as_bits(floor(x));
+        CHECK(lubewon_floor(a) == whole, "floor of %016lX differs from native %016lX", a, whole);
+        natives++;
+    }
+}
+
+static void try_pair(uint64_t a, uint64_t b) {
+    for (size_t i = 0; i < COUNT(operations); i++) try_plain(&operations[i], a, b);
+    CHECK(lubewon_sum(a, b) == lubewon_sum(b, a), "sum of %016lX, %016lX in the other order", a, b);
+    CHECK(lubewon_product(a, b) == lubewon_product(b, a), "product of %016lX, %016lX in the other order", a, b);
+    try_native(a, b);
+}
+
+static void exponent_distances(void) {
+    for (unsigned distance = 0; distance <= 70; distance++)
+        for (int round = 0; round < 1500; round++) {
+            uint64_t exponent = distance + below(2048 - distance), sign = below(2);
+            uint64_t a = pack(sign, exponent, random_fraction());
+            uint64_t b = pack(round % 2 ? sign : !sign, exponent - distance, random_fraction());
+            if (round % 4 < 2) try_pair(a, b);
+            else try_pair(b, a);
+        }
+}
+
+/* Floor of whole numbers and their neighbours. */
+static void floors(void) {
+    for (uint64_t exponent = 1015; exponent <= 1085; exponent++)
+        for (int round = 0; round < 1500; round++) {
+            unsigned cut = exponent < 1023 || exponent > 1075 ? 52 : 1075 - exponent;
+            uint64_t whole = random_fraction() & UINT64_MAX << cut;
+            uint64_t a = pack(below(2), exponent, whole + below(3) - 1);
+            try_plain(&operations[2], a, 0);
+            try_native(a, 0);
+        }
+}
+
+void test_plain_operations(void) {
+    uint64_t numbers[400], a, b;
+    size_t count = edge_numbers(numbers);
+    begin("plain operations");
+    for (size_t i = 0; i < edges; i++) {
+        uint64_t got = try_plain(&operations[edge_table[i].operation], edge_table[i].a, edge_table[i].b);
+        CHECK(got == edge_table[i].result, "edge table, row %zu: %016lX", i, got);
+    }
+    for (size_t i = 0; i < count; i++)
+        for (size_t j = 0; j < count; j++) try_pair(numbers[i], numbers[j]);
+    exponent_distances();
+    floors();
+    for (int round = 0; round < 1000000; round++) {
+        random_pair(&a, &b);
+        try_pair(a, b);
+    }
+    CHECK(natives > 2000000, "only %lu comparisons with native binary64", natives);
+    end("edge table, all pairs of edge operands, exponent distances 0..70, random pairs; against reference and native doubles");
+}
+
+/* ---- Plan copies ---- */
+
+static void copy_plan(operation *op) {
+    lubewon_answer answer = op->copy(op->plan, REF_PLAN_LIMIT);
+    CHECK(answer.number == 0 && answer.place == 0 && answer.tape == 0, "%s plan: answer", op->name);
+    CHECK(answer.words >= 1 && answer.words <= REF_PLAN_LIMIT, "%s plan: %zu words", op->name, answer.words);
+    op->plan_len = answer.words;
+    for (size_t k = 0; k < op->plan_len; k++) CHECK(ref_good_plan_word(op->plan[k]), "%s plan: bad word at %zu", op->name, k);
+}
+
+static void copies_of_every_length(const operation *op) {
+    static uint32_t out[REF_PLAN_LIMIT + 8], before[REF_PLAN_LIMIT + 8];
+    for (size_t len = 0; len <= op->plan_len + 8 && len <= COUNT(out); len++) { /* every length up to past the end */
+        bool fits = len >= op->plan_len;
+        for (size_t k = 0; k < COUNT(out); k++) out[k] = before[k] = (uint32_t)random_word();
+        lubewon_answer answer = op->copy(out, len);
+        CHECK(answer.number == (fits ? 0 : 4) && answer.place == 0 && answer.words == (fits ? op->plan_len : 0) && answer.tape == 0,
+              "%s plan into %zu words: number %u words %zu", op->name, len, answer.number, answer.words);
+        size_t written = fits ? op->plan_len : 0;
+        CHECK(memcmp(out, op->plan, written * sizeof *out) == 0, "%s plan into %zu words: other words", op->name, len);
+        CHECK(memcmp(out + written, before + written, (COUNT(out) - written) * sizeof *out) == 0,
+              "%s plan into %zu words: words changed past the end", op->name, len);
+    }
+}
+
+static void plan_on_random_pairs(const operation *op) {
+    uint64_t registers[REF_REGISTERS], a, b;
+    for (int round = 0; round < 30000; round++) { /* other registers zero, or holding anything */
+        random_pair(&a, &b);
+        memset(registers, 0, sizeof registers);
+        if (round % 2) fill(registers, REF_REGISTERS);
+        registers[0] = a;
+        registers[1] = b;
+        CHECK(lubewon_plain_run(op->plan, op->plan_len, registers, REF_REGISTERS).number == 0, "%s plan: plain run", op->name);
+        CHECK(registers[2] == op->reference(a, b), "%s plan of %016lX, %016lX gives %016lX", op->name, a, b, registers[2]);
+    }
+}
+
+static void plans_on_the_edge_table(void) {
+    for (size_t i = 0; i < edges; i++) {
+        const operation *op = &operations[edge_table[i].operation];
+        uint64_t registers[REF_REGISTERS] = {edge_table[i].a, edge_table[i].b};
+        try_plain_run(0, op->plan, op->plan_len, registers, REF_REGISTERS);
+        CHECK(registers[2] == edge_table[i].result, "%s plan: edge table, row %zu", op->name, i);
+    }
+}
+
+/* Leaves each operation's plan in its row; the groups after this one read it there. */
+void test_plan_copies(void) {
+    begin("plan copies");
+    for (size_t i = 0; i < COUNT(operations); i++) {
+        copy_plan(&operations[i]);
+        copies_of_every_length(&operations[i]);
+        plan_on_random_pairs(&operations[i]);
+    }
+    plans_on_the_edge_table();
+    end("turn-down 4 at every length, words good, result in register 2 against the reference");
+}
