@@ -1,3 +1,4 @@
+/* The C baselines of the bench, written for speed by the same rules: what each is, METHOD.md says. */
 #include "baseline.h"
 
 #include <stdbool.h>

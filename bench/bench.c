@@ -1,6 +1,6 @@
-/* The bench. `bench check` compares the library with the baselines, `bench time` prints nanoseconds for each case, and `bench count`, run
- * under callgrind, leaves a dump of instruction counts for each case; `bench/run` puts them side by side. A case's name is
- * "what|n|side", its unit an operation, a share word, or a translated word. */
+/* The bench. `bench check` compares the library with the baselines, `bench time` prints nanoseconds for each case, `bench count`, run
+ * under callgrind, leaves a dump of instruction counts for each case, and `bench sizes` prints the plans' sizes; `bench/run` puts them side
+ * by side. A case's name is "what|n|side", its unit an operation, a share word, or a translated word. */
 #include <stdbool.h>
 #include <stdio.h>
 #include <stdlib.h>

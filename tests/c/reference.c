@@ -1,3 +1,4 @@
+/* The reference that the C test holds the library against: document 01 once more, in plain C, with 128-bit integers for the numbers. */
 #include "reference.h"
 
 #include <stdlib.h>
