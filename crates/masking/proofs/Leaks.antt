@@ -1,0 +1,102 @@
+-- Document 01's cut "AND without the refresh: with a = b, u holds two shares of one number", as a theorem: for either share there are two
+-- starts that agree in it and whose words at u differ over all tapes, so that no pairing of tapes hides that step. So the secrecy of
+-- specs/Secrecy is no empty demand. Rests on computing the share machine, and on Cells for what stores leave.
+use mathlib.Core.Path.{_≡_, refl, sym, ap, _∙_, subst}
+use mathlib.Core.List.{List, [], _∷_}
+use Prim.Native.Nat.{ℕ, zero, suc, _+_, _*_, _<_, _^_}
+use native.Mathlib.Omega.{arith}
+use native.Mathlib.Decide.{ℕ-discrete}
+use lib.ListN.{getD, set, replicate}
+use lib.Pow.{pow-pos}
+use lib.Seq.{getD-set-same, getD-set-other}
+use Rattle.bits.specs.Ops.{andW, shlW}
+use Rattle.word.specs.declared.step.Step.{Step}
+use Rattle.word.specs.declared.step.Step.the-variants.{Shl, And, Xor, Rand}
+use Rattle.masking.specs.Machine.{Start, Words, execStep, execSteps}
+use Rattle.masking.specs.Secrecy.{Agree}
+use Rattle.masking.proofs.joined.Cells.{set-words}
+
+-- AND 1 0 0 for two shares, up to the first cross product, with y as it was copied
+abbrev pub unrefreshed : List Step
+unrefreshed = Shl 256 0 0 ∷ Shl 257 32 0 ∷ And 264 0 256 ∷ And 265 32 257 ∷ Rand 272 ∷ Xor 264 264 272 ∷ And 273 0 257 ∷ []
+
+-- the word at u
+abbrev pub atU : List ℕ → List ℕ → ℕ
+atU cells tape = getD (execSteps unrefreshed tape cells) 273 0
+
+-- two starts that agree in share i, with different words there over any two tapes
+pub record Leak (i : ℕ) : Type 0 where
+  pub l : List ℕ
+  pub l′ : List ℕ
+  pub start : Start l
+  pub start′ : Start l′
+  pub agree : Agree i l l′
+  pub differ : (tape tape′ : List ℕ) → atU l tape ≡ atU l′ tape′ → ⊥
+
+zero-at : (n k : ℕ) → getD {A = ℕ} (replicate n 0) k 0 ≡ 0
+zero-at zero k = refl
+zero-at (suc n) zero = refl
+zero-at (suc n) (suc k) = zero-at n k
+
+zero-words : (n : ℕ) → Words (replicate n 0)
+zero-words n k = subst (λ (v : ℕ). v < 2 ^ 64) (sym (zero-at n k)) (pow-pos 64)
+
+-- register 0 has the shares x and y, all other cells are 0
+abbrev zeros : List ℕ
+zeros = replicate 512 0
+
+abbrev shared : ℕ → ℕ → List ℕ
+shared x y = set (set zeros 0 x) 32 y
+
+shared-start : (x y : ℕ) → x < 2 ^ 64 → y < 2 ^ 64 → Start (shared x y)
+shared-start x y hx hy = record { size = refl; words = set-words (set zeros 0 x) 32 y (set-words zeros 0 x (zero-words 512) hx) hy }
+
+-- starts that differ in one cell
+beside-0 : (x x′ y k : ℕ) → (k ≡ 0 → ⊥) → getD (shared x y) k 0 ≡ getD (shared x′ y) k 0
+beside-0 x x′ y k h = by (ℕ-discrete k 32)
+  where
+    by : Dec (k ≡ 32) → getD (shared x y) k 0 ≡ getD (shared x′ y) k 0
+    by (yes e) =
+        ap (λ (j : ℕ). getD (shared x y) j 0) e ∙ getD-set-same (set zeros 0 x) 32 y 0 (omega arith)
+        ∙ sym (ap (λ (j : ℕ). getD (shared x′ y) j 0) e ∙ getD-set-same (set zeros 0 x′) 32 y 0 (omega arith))
+    by (no e) =
+        getD-set-other (set zeros 0 x) 32 k y 0 e ∙ getD-set-other zeros 0 k x 0 h
+        ∙ sym (getD-set-other (set zeros 0 x′) 32 k y 0 e ∙ getD-set-other zeros 0 k x′ 0 h)
+
+beside-32 : (x y y′ k : ℕ) → (k ≡ 32 → ⊥) → getD (shared x y) k 0 ≡ getD (shared x y′) k 0
+beside-32 x y y′ k h = getD-set-other (set zeros 0 x) 32 k y 0 h ∙ sym (getD-set-other (set zeros 0 x) 32 k y′ 0 h)
+
+-- the word by both shares, whatever the tape
+of-1-0 : (tape : List ℕ) → atU (shared 1 0) tape ≡ 0
+unfolding execStep andW shlW
+of-1-0 tape = refl
+
+of-0-1 : (tape : List ℕ) → atU (shared 0 1) tape ≡ 0
+unfolding execStep andW shlW
+of-0-1 tape = refl
+
+of-1-1 : (tape : List ℕ) → atU (shared 1 1) tape ≡ 1
+unfolding execStep andW shlW
+of-1-1 tape = refl
+
+pub leak-0 : Leak 0
+leak-0 =
+    record {
+      l = shared 1 0;
+      l′ = shared 1 1;
+      start = shared-start 1 0 (omega arith) (omega arith);
+      start′ = shared-start 1 1 (omega arith) (omega arith);
+      agree = λ r h. beside-32 1 0 1 (32 * 0 + r) (λ e. omega arith);
+      differ = λ tape tape′ e. let z : _≡_ {A = ℕ} 0 1 = sym (of-1-0 tape) ∙ e ∙ of-1-1 tape′ in absurd (omega arith);
+    }
+
+pub leak-1 : Leak 1
+leak-1 =
+    record {
+      l = shared 0 1;
+      l′ = shared 1 1;
+      start = shared-start 0 1 (omega arith) (omega arith);
+      start′ = shared-start 1 1 (omega arith) (omega arith);
+      agree = λ r h. beside-0 0 1 1 (32 * 1 + r) (λ e. omega arith);
+      differ = λ tape tape′ e. let z : _≡_ {A = ℕ} 0 1 = sym (of-0-1 tape) ∙ e ∙ of-1-1 tape′ in absurd (omega arith);
+    }
