@@ -15,7 +15,7 @@ use lib.Ieee.Digits.{size-lt, size-reaches}
 use lib.Ieee.Exact.{HasValue, units-val}
 use lib.Ieee.Fits.{down-pos, kept-lt, round-is}
 use lib.Ieee.Nearest.{closest, closest-same, div-same}
-use Rattle.binary64.specs.Rounding.{significand, magBits}
+use Rattle.binary64.specs.Rounding.{roundedSignificand, magBits}
 use Rattle.binary64.specs.Ieee.{ZeroOrLarge}
 use Rattle.binary64.specs.Steps.{packed}
 use Rattle.binary64.proofs.Cases.{lt-or-ge, if-not-lt, pow-lt-back, size-gt, size-is}
@@ -161,7 +161,7 @@ large M j h =
     let d : size (M / 2 ^ j) - 53 ≡ size M - suc (52 + j) = ap (λ (z : ℕ). z - 53) (size-div M j hl) ∙ minus (size M) j in
     let k : j + (size (M / 2 ^ j) - 53) ≡ size M - 53 = ap (λ (z : ℕ). j + z) d ∙ plus (size M) j g in
     ap₂ (λ (x y : ℕ). packed x (closest M (2 ^ y))) d k
-    ∙ sym (magBits-min (52 + j) M (omega arith) ∙ if-not-lt M (2 ^ (52 + j)) 0 (packed (size M - suc (52 + j)) (significand M)) h)
+    ∙ sym (magBits-min (52 + j) M (omega arith) ∙ if-not-lt M (2 ^ (52 + j)) 0 (packed (size M - suc (52 + j)) (roundedSignificand M)) h)
   where
     minus : (z j : ℕ) → z - j - 53 ≡ z - suc (52 + j)
     minus z j = omega arith

@@ -9,7 +9,7 @@ use lib.Ieee.{size, nearest}
 use lib.Ieee.Digits.{size-lt, size-reaches}
 use lib.Ieee.Nearest.{closest}
 use Rattle.binary64.specs.Number.{expo, frac, magnitudeOf, magnitude, signed}
-use Rattle.binary64.specs.Rounding.{significand, magBits}
+use Rattle.binary64.specs.Rounding.{roundedSignificand, magBits}
 use Rattle.binary64.specs.Meaning.{distance, NearestEven, RoundingMeans}
 use Rattle.binary64.specs.Steps.{packed}
 use Rattle.binary64.proofs.Cases.{Cmp, cmp, lt-or-ge, if-not-lt, size-gt}
@@ -158,12 +158,12 @@ rounding-means u M h52 h =
     let e₁ : size M - 1 < size M = omega arith in
     let e₂ : 52 + (size M - 53) ≡ size M - 1 = omega arith in
     let e₃ : 53 + (size M - 53) ≡ size M = omega arith in
-    let lo : 2 ^ 52 ≤ significand M = significand-ge M big in
-    let b : magBits u M ≡ packed (size M - suc u) (significand M) = magBits-min u M h52 ∙ if-not-lt M (2 ^ u) 0 (packed (size M - suc u) (significand M)) h in
+    let lo : 2 ^ 52 ≤ roundedSignificand M = significand-ge M big in
+    let b : magBits u M ≡ packed (size M - suc u) (roundedSignificand M) = magBits-min u M h52 ∙ if-not-lt M (2 ^ u) 0 (packed (size M - suc u) (roundedSignificand M)) h in
     record {
       kept-low = le-trans (le-of-eq (sym (pow-add 2 52 (size M - 53)) ∙ ap (λ (x : ℕ). 2 ^ x) e₂)) (size-reaches M (size M - 1) e₁);
       kept-high = lt-of-lt-of-le (size-lt M) (le-of-eq (ap (λ (x : ℕ). 2 ^ x) (sym e₃) ∙ pow-add 2 53 (size M - 53)));
       nearest = closest-nearest M (size M - 53);
-      limit = limits u (size M) (significand M) (magBits u M) h52 g lo (significand-le M) b;
-      reads = readable u (size M) (significand M) (magBits u M) h52 g lo (significand-le M) b;
+      limit = limits u (size M) (roundedSignificand M) (magBits u M) h52 g lo (significand-le M) b;
+      reads = readable u (size M) (roundedSignificand M) (magBits u M) h52 g lo (significand-le M) b;
     }

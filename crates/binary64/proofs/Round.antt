@@ -13,7 +13,7 @@ use lib.Ieee.{size, nearest}
 use lib.Ieee.Digits.{size-reaches}
 use lib.Ieee.Fits.{kept-lt, nearest-le}
 use lib.Ieee.Nearest.{closest, closest-same, nearest-ge}
-use Rattle.binary64.specs.Rounding.{significand, roundedE, roundedF, limited, magBits}
+use Rattle.binary64.specs.Rounding.{roundedSignificand, roundedE, roundedF, limited, magBits}
 use Rattle.binary64.specs.Steps.{roundNE, packed}
 use Rattle.binary64.proofs.Jam.{closest-by}
 use Rattle.binary64.proofs.Cases.{Cmp, cmp, lt-or-ge, if-lt, if-not-lt, if-le, if-not-le, if-eq, if-not-eq, size-gt, size-is}
@@ -32,10 +32,10 @@ kept-ge p M h =
     let l : p + k < size M = omega arith in
     le-div-iff-mul-le (pow-pos k) .1 (le-trans (le-of-eq (sym (pow-add 2 p k))) (size-reaches M (p + k) l))
 
-pub significand-ge : (M : ℕ) → 2 ^ 52 ≤ M → 2 ^ 52 ≤ significand M
+pub significand-ge : (M : ℕ) → 2 ^ 52 ≤ M → 2 ^ 52 ≤ roundedSignificand M
 significand-ge M h = le-trans (kept-ge 52 M h) (closest-down M (2 ^ (size M - 53)))
 
-pub significand-le : (M : ℕ) → significand M ≤ 2 ^ 53
+pub significand-le : (M : ℕ) → roundedSignificand M ≤ 2 ^ 53
 significand-le M = le-trans (closest-up M (2 ^ (size M - 53))) (kept-lt 53 M)
 
 -- ---- E, F and the limit as one `min`; z is the length of the magnitude
@@ -71,12 +71,12 @@ unfolding magBits roundedE roundedF
 magBits-min u M h52 =
     elim (lt-or-ge M (2 ^ u)) [
       | inl l ↦
-          if-lt M (2 ^ u) 0 (limited (size M - u + cond (eqb (significand M) (2 ^ 53)) 1 0) (significand M % 2 ^ 52)) l
-          ∙ sym (if-lt M (2 ^ u) 0 (packed (size M - suc u) (significand M)) l)
+          if-lt M (2 ^ u) 0 (limited (size M - u + cond (eqb (roundedSignificand M) (2 ^ 53)) 1 0) (roundedSignificand M % 2 ^ 52)) l
+          ∙ sym (if-lt M (2 ^ u) 0 (packed (size M - suc u) (roundedSignificand M)) l)
       | inr l ↦
-          if-not-lt M (2 ^ u) 0 (limited (size M - u + cond (eqb (significand M) (2 ^ 53)) 1 0) (significand M % 2 ^ 52)) l
-          ∙ fields-min (size M) u (significand M) (size-gt M u l) (significand-ge M (le-trans (pow-mono h52) l)) (significand-le M)
-          ∙ sym (if-not-lt M (2 ^ u) 0 (packed (size M - suc u) (significand M)) l)
+          if-not-lt M (2 ^ u) 0 (limited (size M - u + cond (eqb (roundedSignificand M) (2 ^ 53)) 1 0) (roundedSignificand M % 2 ^ 52)) l
+          ∙ fields-min (size M) u (roundedSignificand M) (size-gt M u l) (significand-ge M (le-trans (pow-mono h52) l)) (significand-le M)
+          ∙ sym (if-not-lt M (2 ^ u) 0 (packed (size M - suc u) (roundedSignificand M)) l)
     ]
 
 -- below 2^u nothing is left, whatever it would be rounded to
@@ -95,8 +95,8 @@ pub bits-lt : (u M : ℕ) → 52 ≤ u → magBits u M < 2 ^ 63
 bits-lt u M h =
     subst (λ (x : ℕ). x < 2 ^ 63) (sym (magBits-min u M h))
     (elim (lt-or-ge M (2 ^ u)) [
-      | inl l ↦ subst (λ (x : ℕ). x < 2 ^ 63) (sym (if-lt M (2 ^ u) 0 (packed (size M - suc u) (significand M)) l)) (pow-pos 63)
-      | inr l ↦ subst (λ (x : ℕ). x < 2 ^ 63) (sym (if-not-lt M (2 ^ u) 0 (packed (size M - suc u) (significand M)) l)) (limit ((size M - suc u) * 2 ^ 52 + significand M))
+      | inl l ↦ subst (λ (x : ℕ). x < 2 ^ 63) (sym (if-lt M (2 ^ u) 0 (packed (size M - suc u) (roundedSignificand M)) l)) (pow-pos 63)
+      | inr l ↦ subst (λ (x : ℕ). x < 2 ^ 63) (sym (if-not-lt M (2 ^ u) 0 (packed (size M - suc u) (roundedSignificand M)) l)) (limit ((size M - suc u) * 2 ^ 52 + roundedSignificand M))
     ])
 
 -- ---- M's top bit has place c
@@ -109,7 +109,7 @@ module _ (u M c : ℕ) (h52 : 52 ≤ u) (lo : 2 ^ c ≤ M) (hi : M < 2 ^ suc c) 
   bits-over h =
       let z : size M ≡ suc c = size-is M c lo hi in
       magBits-min u M h52
-      ∙ if-not-lt M (2 ^ u) 0 (packed (size M - suc u) (significand M)) (le-trans (pow-mono h) lo)
+      ∙ if-not-lt M (2 ^ u) 0 (packed (size M - suc u) (roundedSignificand M)) (le-trans (pow-mono h) lo)
       ∙ ap (λ (x : ℕ). packed (x - suc u) (closest M (2 ^ (x - 53)))) z
       ∙ ap₂ (λ (x y : ℕ). packed x (closest M (2 ^ y))) (suc-sub-suc c u) (suc-sub-suc c 52)
 

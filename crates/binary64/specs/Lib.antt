@@ -1,4 +1,5 @@
--- Document 01's numbers: what a word stands for (Number), rounding (Rounding), the three operations, and the table of edges.
+-- Document 01's numbers: what a word stands for (Number), rounding (Rounding), the three operations and their list (Operations), and the
+-- table of edges.
 -- Statements about them: that rounding and floor mean what the paper says (Meaning), its sentences on zeros, underflow, cancellation and E = 2047 (Corners),
 -- and where product and sum are IEEE 754's (Ieee).
 -- Steps has names for intermediate numbers only.
@@ -7,6 +8,7 @@ pub mod Rounding
 pub mod Product
 pub mod Sum
 pub mod Floor
+pub mod Operations
 pub mod Meaning
 pub mod Corners
 pub mod Edges

@@ -3,7 +3,7 @@ use mathlib.Core.Path.{_≡_}
 use Prim.Native.Nat.{ℕ, suc, _+_, _-_, _*_, _%_, _^_, _≤_, _<_}
 use lib.Ieee.{size}
 use Rattle.binary64.specs.Number.{sign, magnitude}
-use Rattle.binary64.specs.Rounding.{significand, magBits}
+use Rattle.binary64.specs.Rounding.{roundedSignificand, magBits}
 use Rattle.binary64.specs.Floor.{floor}
 
 abbrev pub distance : ℕ → ℕ → ℕ
@@ -14,15 +14,15 @@ pub record NearestEven (M e q : ℕ) : Type 0 where
   pub nearest : (k : ℕ) → distance M (q * 2 ^ e) ≤ distance M (k * 2 ^ e)
   pub even : (k : ℕ) → (k ≡ q → ⊥) → distance M (k * 2 ^ e) ≡ distance M (q * 2 ^ e) → q % 2 ≡ 0
 
--- "rounded to 53 significant bits, nearest, ties to even": the unit leaves 53 bits of M, and q, the `significand`, is nearest.
+-- "rounded to 53 significant bits, nearest, ties to even": the unit leaves 53 bits of M, and q, the `roundedSignificand`, is nearest.
 -- "If the rounded E would be 2047 or more, the answer has E = 2047, F = 0": that E, at F = 0, would read as 2^(u + 2046) of M's units.
 -- From there on the answer r is the limit; below, its E is below 2047 and it reads as q units. 2^u of M's units make 2^-1022; a word's magnitude is in units of 2^-1074.
 pub record Rounded (u M r : ℕ) : Type 0 where
   pub kept-low : 2 ^ 52 * 2 ^ (size M - 53) ≤ M
   pub kept-high : M < 2 ^ 53 * 2 ^ (size M - 53)
-  pub nearest : NearestEven M (size M - 53) (significand M)
-  pub limit : 2 ^ (u + 2046) ≤ significand M * 2 ^ (size M - 53) → r ≡ 2047 * 2 ^ 52
-  pub reads : significand M * 2 ^ (size M - 53) < 2 ^ (u + 2046) → (r < 2047 * 2 ^ 52) × (magnitude r * 2 ^ (u - 52) ≡ significand M * 2 ^ (size M - 53))
+  pub nearest : NearestEven M (size M - 53) (roundedSignificand M)
+  pub limit : 2 ^ (u + 2046) ≤ roundedSignificand M * 2 ^ (size M - 53) → r ≡ 2047 * 2 ^ 52
+  pub reads : roundedSignificand M * 2 ^ (size M - 53) < 2 ^ (u + 2046) → (r < 2047 * 2 ^ 52) × (magnitude r * 2 ^ (u - 52) ≡ roundedSignificand M * 2 ^ (size M - 53))
 
 -- "Otherwise it is rounded ..": not below 2^-1022. `Corners` has what is below.
 abbrev pub RoundingMeans : Type 0

@@ -8,16 +8,16 @@ use lib.Ieee.{size}
 use lib.Ieee.Nearest.{closest}
 
 -- "rounded to 53 significant bits, nearest, ties to even": q multiples of 2^(size M - 53). 2^52 ≤ q ≤ 2^53 where 2^52 ≤ M.
-abbrev pub significand : ℕ → ℕ
-significand M = closest M (2 ^ (size M - 53))
+abbrev pub roundedSignificand : ℕ → ℕ
+roundedSignificand M = closest M (2 ^ (size M - 53))
 
 -- the E of the rounded number: M's top bit has the place size M - 1, and the place u has E = 1; one more where q is the next power of two
 unfoldable pub roundedE : ℕ → ℕ → ℕ
-roundedE u M = size M - u + cond (eqb (significand M) (2 ^ 53)) 1 0
+roundedE u M = size M - u + cond (eqb (roundedSignificand M) (2 ^ 53)) 1 0
 
 -- its F: q without its top bit
 unfoldable pub roundedF : ℕ → ℕ
-roundedF M = significand M % 2 ^ 52
+roundedF M = roundedSignificand M % 2 ^ 52
 
 -- bits 62..0 from E and F
 abbrev pub fields : ℕ → ℕ → ℕ

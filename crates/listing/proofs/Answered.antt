@@ -7,11 +7,11 @@ use native.Mathlib.Omega.{arith}
 use lib.Dec.{ltb, eqb}
 use lib.ListN.{length, getD}
 use borrow.Author.Tests.{lt-ltb, le-ltb, eq-eqb, ne-eqb}
-use Rattle.word.specs.declared.answer.Answer.{Answer}
+use Rattle.checks.specs.declared.answer.Answer.{Answer}
 use Rattle.word.specs.Layout.{isShareCount}
-use Rattle.word.specs.Answers.{refused, given}
-use Rattle.shares.specs.Calls.{measureAnswer}
-use Rattle.listing.specs.Listing.{listAnswer, wordsOf, countOf, planOf}
+use Rattle.checks.specs.Answers.{refused, given}
+use Rattle.translation.specs.Calls.{measureAnswer}
+use Rattle.listing.specs.Sharelist.{listAnswer, wordsOf, countOf, planOf}
 
 pub no-byte : (input : List ℕ) → length input ≡ 0 → listAnswer input ≡ refused 1
 unfolding listAnswer

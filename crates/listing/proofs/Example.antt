@@ -1,11 +1,13 @@
 -- Document 01's listed translation of bytes 02 01 00 08 20. Assumes nothing.
 use mathlib.Core.Path.{refl}
-use Rattle.word.specs.Word.{row, named, put}
+use Rattle.word.specs.Encoding.{row, named, put}
 use Rattle.word.specs.Layout.{lengthOf, tapeOf}
 use Rattle.masking.specs.Translation.{shareCell, translated}
-use Rattle.shares.specs.Calls.{planChecked}
-use Rattle.listing.specs.Listing.{listAnswer, decimal, hexLine, firstLine, refusedLine, listing, ExampleListed}
+use Rattle.checks.specs.Answers.{planChecked}
+use Rattle.translation.specs.Calls.{planFor}
+use Rattle.listing.specs.Sharelist.{listAnswer, listing, ExampleListed}
+use Rattle.text.specs.Lines.{decimal, hexLine, firstLine, refusedLine}
 
 pub example : ExampleListed
-unfolding row named put lengthOf tapeOf shareCell translated planChecked listAnswer decimal hexLine firstLine refusedLine listing
+unfolding row named put lengthOf tapeOf shareCell translated planChecked planFor listAnswer decimal hexLine firstLine refusedLine listing
 example = refl

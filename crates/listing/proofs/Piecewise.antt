@@ -10,13 +10,16 @@ use lib.Dec.{leb, eqb}
 use lib.ListN.{length, take, drop, length-append, take-append-drop, drop-of-length-le}
 use lib.Seq.{drop-drop}
 use borrow.Author.Tests.{leb-true, leb-false, eqb-true, eqb-false, ne-eqb, lt-leb}
-use Rattle.word.specs.Answers.{keptUnless}
-use Rattle.shares.specs.Calls.{measured}
-use Rattle.shares.proofs.Counted.{accepted}
-use Rattle.listing.specs.Listing.{listAnswer, firstLine, refusedLine, countOf, planOf}
-use Rattle.listing.specs.Writing.{Wrote, ListsPart, ListsPiece, wordLines, linesOf, wordBytes, listedWords, headOf, pieceCount, pieceText, wordsDone, pieceNext, pieceLast, piecesFrom}
-use Rattle.listing.proofs.Placed.{fits}
-use Rattle.listing.proofs.Decimal.{decimal-most}
+use Rattle.word.specs.Layout.{planMax}
+use Rattle.checks.specs.Answers.{keptUnless}
+use Rattle.translation.specs.Calls.{measured}
+use Rattle.translation.proofs.Counted.{accepted}
+use Rattle.listing.specs.Sharelist.{listAnswer, countOf, planOf}
+use Rattle.text.specs.Lines.{firstLine, refusedLine}
+use Rattle.text.specs.Writing.{Wrote}
+use Rattle.listing.specs.Pieces.{ListsPart, ListsPiece, wordLines, linesOf, wordBytes, listedWords, headOf, pieceCount, pieceText, wordsListed, pieceNext, pieceLast, piecesFrom}
+use Rattle.text.proofs.Placed.{fits}
+use Rattle.text.proofs.Decimal.{decimal-most}
 use Rattle.listing.proofs.Answered.{taken}
 use Rattle.listing.proofs.Parts.{fit-some, fitted-most}
 
@@ -59,14 +62,14 @@ module _ {input : List ℕ} {from : ℕ} {out after : List ℕ} {bytes : ℕ} wh
   -- piece 0
   pub first-piece : {count : ℕ} → from ≡ 0 → count ≡ length (listedWords input) → Wrote (headOf input) out after bytes
       → ListsPiece input from out after bytes 1 (eqb count 0)
-  unfolding pieceText wordsDone
+  unfolding pieceText wordsListed
   first-piece {count} z e w = rw z (record { text = w; moved = refl; ends = none-left count ∙ ap (λ (k : ℕ). leb k 0) e })
 
   -- each other one
   pub next-piece : {count k : ℕ} → 0 < from → count ≡ length (listedWords input)
       → ListsPart (countOf input) (listedWords input) (from - 1) out after k bytes
       → ListsPiece input from out after bytes (k + 1) (leb count k)
-  unfolding pieceText wordsDone
+  unfolding pieceText wordsListed
   next-piece {count} {k} h e p =
       let z : from ≡ suc (from - 1) = omega arith in
       rw z (record {
@@ -97,7 +100,7 @@ module _ (room : ℕ) (r : wordBytes ≤ room) (input : List ℕ) where
 
   -- a piece that is not the last goes on behind itself, at a word that is left
   pub piece-moves : (from : ℕ) → pieceLast room input from ≡ false → (from < pieceNext room input from) × (pieceNext room input from ≤ length (listedWords input))
-  unfolding wordsDone
+  unfolding wordsListed
   piece-moves zero e = (omega arith, leb-false (length (listedWords input)) 0 e)
   piece-moves (suc k) e =
       let l : k + pieceCount room input k < length (listedWords input) = leb-false _ _ e in
@@ -123,17 +126,17 @@ module _ (room : ℕ) (r : wordBytes ≤ room) (input : List ℕ) where
   -- what `turns` pieces list from each word on, they list behind a piece
   behind : (turns : ℕ) → ((k : ℕ) → length (listedWords input) ≤ k + turns → piecesFrom turns room input (suc k) ≡ linesFrom k)
       → (from : ℕ) → length (listedWords input) ≤ from + turns
-      → piecesFrom (suc turns) room input from ≡ pieceText room input from ++ linesFrom (wordsDone room input from)
+      → piecesFrom (suc turns) room input from ≡ pieceText room input from ++ linesFrom (wordsListed room input from)
   behind turns on from l = ap₂ (λ (x y : List ℕ). x ++ y) (fits (pieceText room input from) (piece-most room r input from)) (by (pieceLast room input from) refl)
     where
       by : (b : Bool) → pieceLast room input from ≡ b
-          → cond b [] (piecesFrom turns room input (pieceNext room input from)) ≡ linesFrom (wordsDone room input from)
+          → cond b [] (piecesFrom turns room input (pieceNext room input from)) ≡ linesFrom (wordsListed room input from)
       by true e = sym (ap (linesOf (countOf input)) (drop-of-length-le (listedWords input) (leb-true _ _ e)))
-      by false e = on (wordsDone room input from) (omega (arith, piece-moves room r input from e .0))
+      by false e = on (wordsListed room input from) (omega (arith, piece-moves room r input from e .0))
 
   -- pieces list the words from each word on
   lines-on : (turns k : ℕ) → length (listedWords input) ≤ k + turns → piecesFrom turns room input (suc k) ≡ linesFrom k
-  unfolding pieceText wordsDone
+  unfolding pieceText wordsListed
   lines-on zero k l = sym (ap (linesOf (countOf input)) (drop-of-length-le (listedWords input) {i = k} (omega arith)))
   lines-on (suc turns) k l =
       let n = countOf input in
@@ -145,6 +148,6 @@ module _ (room : ℕ) (r : wordBytes ≤ room) (input : List ℕ) where
       ∙ ap (linesOf n) (take-append-drop f ws)
 
   -- the first line or the refusal, then the lines of all words
-  pub pieces-whole : piecesFrom 2049 room input 0 ≡ headOf input ++ linesOf (countOf input) (listedWords input)
-  unfolding pieceText wordsDone
+  pub pieces-whole : piecesFrom (1 + planMax) room input 0 ≡ headOf input ++ linesOf (countOf input) (listedWords input)
+  unfolding pieceText wordsListed
   pieces-whole = behind 2048 (lines-on 2048) 0 (omega (arith, listed-most input))

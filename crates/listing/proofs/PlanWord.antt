@@ -5,34 +5,33 @@ use mathlib.Core.Bool.{Bool, true, false, not}
 use mathlib.Core.List.{List, [], _∷_, _++_}
 use Prim.Native.Nat.{ℕ, _+_, _≤_}
 use native.Mathlib.Omega.{arith}
-use lib.Dec.{ltb, eqb}
+use lib.Dec.{eqb}
 use lib.ListN.{length, take, drop, length-append}
 use lib.Seq.{take-at}
 use borrow.Author.Tests.{le-ltb, eqb-true, eqb-false}
-use Rattle.word.specs.declared.answer.Answer.{Answer}
-use Rattle.word.specs.Word.{planStep, kindOf}
-use Rattle.word.specs.Layout.{planMax, isShareCount}
-use Rattle.word.specs.Answers.{firstBad, refused, badAt, given, keptUnless, afterCall}
+use Rattle.checks.specs.declared.answer.Answer.{Answer}
+use Rattle.word.specs.Encoding.{kindOf}
+use Rattle.word.specs.Layout.{wordMax, isShareCount}
+use Rattle.checks.specs.Answers.{refused, given, planChecked, keptUnless, afterCall}
+use Rattle.checks.proofs.Checked.{plan-check}
 use Rattle.masking.specs.Translation.{program}
 use Rattle.masking.specs.Foretold.{foretoldWords}
 use Rattle.masking.proofs.emitted.Counts.{plan-counts}
-use Rattle.shares.specs.Calls.{planChecked, measured, measureAnswer, translateAnswer, translateOut}
+use Rattle.translation.specs.Calls.{planFor, measured, measureAnswer, translateAnswer, translateOut}
 use Rattle.word.proofs.Small.{length-le}
-use Rattle.shares.proofs.Counted.{accepted, next-answer, turned-down}
-use Rattle.listing.specs.Listing.{hexLines}
-use Rattle.listing.specs.Writing.{wordLines, wordBytes}
-use Rattle.listing.proofs.Hex.{lines-length}
+use Rattle.translation.proofs.Counted.{accepted, next-answer, turned-down}
+use Rattle.text.specs.Lines.{hexLines}
+use Rattle.listing.specs.Pieces.{wordLines, wordBytes}
+use Rattle.text.proofs.Hex.{lines-length}
 
 -- a plan that is turned down has no counts
-no-words : (n : ℕ) (plan : List ℕ) → planChecked n plan (refused 0) .words ≡ 0
-unfolding planChecked
-no-words n plan = by (not (isShareCount n)) (ltb planMax (length plan)) (ltb (firstBad planStep plan) (length plan)) (firstBad planStep plan)
+no-words : (n : ℕ) (plan : List ℕ) → planFor n plan (refused 0) .words ≡ 0
+unfolding planFor
+no-words n plan = by (not (isShareCount n)) (plan-check .counts plan (refused 0) .0)
   where
-    by : (p q r : Bool) (b : ℕ) → given p (refused 1) (given q (refused 2) (given r (badAt b) (refused 0))) .words ≡ 0
-    by true q r b = refl
-    by false true r b = refl
-    by false false true b = refl
-    by false false false b = refl
+    by : (p : Bool) → planChecked plan (refused 0) .words ≤ 0 → given p (refused 1) (planChecked plan (refused 0)) .words ≡ 0
+    by true h = refl
+    by false h = omega arith
 
 -- the share words that Translate leaves, and how many it says there are
 pub record Translated (n w count : ℕ) (out : List ℕ) : Type 0 where
@@ -44,7 +43,7 @@ module _ (n w : ℕ) where
   plan = w ∷ []
 
   module _ (h : measureAnswer n plan .number ≡ 0) where
-    words-most : foretoldWords n plan ≤ 3816
+    words-most : foretoldWords n plan ≤ wordMax
     words-most = omega (arith, length-le n (accepted n plan (measured n plan) h .most) (kindOf w))
 
     program-length : length (program n plan) ≡ foretoldWords n plan
@@ -67,7 +66,7 @@ module _ (n w : ℕ) where
           omega (arith, ap length (lines-of-good h), lines-length (program n plan), program-length h, words-most h)
       by false e = omega (arith, ap length (lines-of-bad e))
 
-  module _ (out : List ℕ) (room : length out ≡ 3816) where
+  module _ (out : List ℕ) (room : length out ≡ wordMax) where
     -- the word is translated
     good-answer : measureAnswer n plan .number ≡ 0 → translateAnswer n plan (length out) ≡ measured n plan
     good-answer h =

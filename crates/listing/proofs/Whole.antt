@@ -3,25 +3,33 @@ use mathlib.Core.Path.{_≡_, refl, sym, ap, ap₂, _∙_}
 use mathlib.Core.Bool.{Bool, true, false, cond}
 use mathlib.Core.List.{List, [], _∷_, _++_, append-nil}
 use Prim.Native.Nat.{ℕ, _≤_}
+use native.Mathlib.Omega.{arith}
 use lib.Dec.{eqb}
 use borrow.Author.Tests.{le-leb, eqb-true, eqb-false}
-use Rattle.word.specs.Word.{planStep}
+use Rattle.word.specs.Encoding.{planStep}
 use Rattle.masking.specs.Foretold.{Accepted}
 use Rattle.masking.specs.Translation.{program, wordsFor}
 use Rattle.masking.proofs.emitted.Steps.{PlanWord, PlanWords, plan-words}
-use Rattle.shares.specs.Calls.{planChecked, measured, measureAnswer}
-use Rattle.shares.proofs.Counted.{accepted}
-use Rattle.listing.specs.Listing.{listAnswer, hexLines, firstLine, refusedLine, countOf, planOf, listing}
-use Rattle.listing.specs.Writing.{linesOf, listedWords, headOf, PiecesAreListing}
-use Rattle.listing.proofs.Hex.{lines-append}
+use Rattle.word.specs.declared.step.Decoded.{Decoded}
+use Rattle.checks.specs.declared.answer.Answer.{Answer}
+use Rattle.checks.specs.Answers.{firstOf}
+use Rattle.checks.proofs.Checked.{plan-check}
+use Rattle.translation.specs.Calls.{planFor, measured, measureAnswer}
+use Rattle.translation.proofs.Counted.{accepted}
+use Rattle.listing.specs.Sharelist.{listAnswer, countOf, planOf, listing}
+use Rattle.text.specs.Lines.{hexLines, firstLine, refusedLine}
+use Rattle.listing.specs.Pieces.{linesOf, listedWords, headOf, PiecesAreListing}
+use Rattle.text.proofs.Hex.{lines-append}
 use Rattle.listing.proofs.Answered.{taken}
 use Rattle.listing.proofs.PlanWord.{lines-of-good}
 use Rattle.listing.proofs.Piecewise.{listed-taken, listed-none, head-taken, head-refused, pieces-whole}
 
 -- Measure takes each word of a plan that it takes
 word-taken : (n w : ℕ) → 2 ≤ n → n ≤ 8 → PlanWord w → measureAnswer n (w ∷ []) .number ≡ 0
-unfolding planChecked
-word-taken n w l m p = rw (le-leb 2 n l, le-leb n 8 m, p .apart)
+unfolding planFor
+word-taken n w l m p =
+    rw (le-leb 2 n l, le-leb n 8 m)
+    (ap (λ (a : Answer). a .number) (plan-check .next (w ∷ []) (record { short = omega arith; good = ap (λ (d : Decoded). firstOf d 0) (p .apart) }) (measured n (w ∷ []))))
 
 module _ (n : ℕ) (l : 2 ≤ n) (m : n ≤ 8) where
   lines-good : (plan : List ℕ) → PlanWords plan → hexLines (program n plan) ≡ linesOf n plan

@@ -6,9 +6,9 @@ use native.Mathlib.Nat.{add-zero}
 use native.Mathlib.Omega.{arith}
 use lib.ListN.{length, drop, getD, set, length-drop}
 use lib.Seq.{getD-drop, drop-drop}
-use Rattle.listing.specs.Listing.{wordsOf, countOf, planOf}
-use Rattle.listing.specs.Writing.{Appends}
-use Rattle.listing.proofs.Placed.{Left, renamed, part, whole}
+use Rattle.listing.specs.Sharelist.{wordsOf, countOf, planOf}
+use Rattle.text.specs.Writing.{Appends}
+use Rattle.text.proofs.Placed.{Left, renamed, part, whole}
 
 pub words-short : (l : List ℕ) → length l < 4 → wordsOf l ≡ []
 words-short [] h = refl

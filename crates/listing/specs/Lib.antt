@@ -1,3 +1,3 @@
--- What `sharelist` reads and writes (Listing), and what the functions here write of it (Writing).
-pub mod Listing
-pub mod Writing
+-- What `sharelist` reads and writes (Sharelist), and the listing part by part and piece by piece (Pieces).
+pub mod Sharelist
+pub mod Pieces

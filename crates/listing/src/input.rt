@@ -1,12 +1,15 @@
 // The input bytes of `sharelist`: the share count, then plan words.
 ghost use mathlib.Core.Path.{_≡_};
 ghost use Prim.Native.Nat.{_+_, _*_};
-ghost use Rattle.listing.specs.Listing.{countOf, listAnswer, planOf};
-ghost use Rattle.listing.specs.Writing.{Wrote};
-use shares::measure::measure;
-use word::answer::Answer;
-use word::share_count::is_share_count;
+ghost use Rattle.listing.specs.Sharelist.{countOf, listAnswer, planOf};
+ghost use Rattle.text.specs.Writing.{Wrote};
+use checks::answer::Answer;
+use checks::share_count::is_share_count;
+use translation::measure::measure;
 use word::step_word::StepWord;
+
+// The bytes of the longest plan.
+const PLAN_BYTES: usize = 4 * StepWord::PLAN_MAX;
 
 // A word of four bytes, the least first.
 fn word_of(a: u8, b: u8, c: u8, d: u8) -> u32
@@ -57,7 +60,7 @@ pub fn list_answer(input: &[u8]) -> Answer
         return Answer::refused(1);
     }
     let bytes = input.len() - 1;
-    if 8192 < bytes {
+    if PLAN_BYTES < bytes {
         return Answer::refused(2);
     }
     if bytes % 4 != 0 {

@@ -1,68 +1,20 @@
-// The lines of share words: eight hexadecimal digits and a line feed each.
-ghost use mathlib.Core.Path.{_≡_};
-ghost use Prim.Native.Nat.{_<_, _≤_};
-ghost use lib.ListN.{length};
-ghost use lib.Seq.{sets};
-ghost use Rattle.listing.specs.Listing.{hexDigit, hexLine, hexLines};
-ghost use Rattle.listing.specs.Writing.{ListsPart, Wrote, wordLines};
-use shares::translate::translate;
+// The lines of plan words: those of each word's translation.
+ghost use Rattle.listing.specs.Pieces.{ListsPart, wordLines};
+ghost use Rattle.text.specs.Writing.{Wrote};
+use text::words::LINE;
+use text::words::hex_lines;
+use translation::translate::translate;
+use word::step_word::StepWord;
 
-// The bytes of a share word's line.
-const LINE: usize = 9;
-
-// Share words that a plan word gives at most, and the bytes of their lines.
-const WORD_MAX: usize = 3816;
-
-const WORD_BYTES: usize = 34344;
-
-fn hex_digit(x: u32) -> u8
-    requires { ⌜ x < 16 ⌝ }
-    ensures { λ r. ⌜ r ≡ hexDigit x ⌝ }
-{
-    if x < 10 {
-        48 + (x as u8)
-    } else {
-        55 + (x as u8)
-    }
-}
-
-// A word's line at the front of what is lent.
-fn hex_line(w: u32, out: &mut [u8])
-    requires { ⌜ 9 ≤ length (now out) ⌝ }
-    ensures { λ _. ⌜ now (out .exit) ≡ sets (now (out .entry)) 0 (hexLine w) ⌝ }
-{
-    out[0] = hex_digit((w >> 28) % 16);
-    out[1] = hex_digit((w >> 24) % 16);
-    out[2] = hex_digit((w >> 20) % 16);
-    out[3] = hex_digit((w >> 16) % 16);
-    out[4] = hex_digit((w >> 12) % 16);
-    out[5] = hex_digit((w >> 8) % 16);
-    out[6] = hex_digit((w >> 4) % 16);
-    out[7] = hex_digit(w % 16);
-    out[8] = b'\n';
-}
-
-// One word a line. Nothing is written where the lines do not fit; the answer counts the bytes written.
-pub fn hex_lines(words: &[u32], out: &mut [u8]) -> usize
-    ensures { λ r. ⌜ Wrote (hexLines (now (words .entry))) (now (out .entry)) (now (out .exit)) r ⌝ }
-{
-    if out.len() / LINE < words.len() {
-        return 0;
-    }
-    let mut at = 0;
-    for i in 0..words.len() {
-        hex_line(words[i], &mut out[at..]);
-        at += LINE;
-    }
-    at
-}
+// The bytes that a plan word's lines take at most.
+const WORD_BYTES: usize = LINE * StepWord::WORD_MAX;
 
 // The lines of one plan word's translation. Nothing is written where the word is turned down or the lines do not fit.
 pub fn word_lines(n: usize, w: u32, out: &mut [u8]) -> usize
     ensures { λ r. ⌜ Wrote (wordLines n w) (now (out .entry)) (now (out .exit)) r ⌝ }
 {
     let one = [w];
-    let mut words = [0u32; WORD_MAX];
+    let mut words = [0u32; StepWord::WORD_MAX];
     let count = translate(n, &one, &mut words).words;
     hex_lines(&words[..count], out)
 }

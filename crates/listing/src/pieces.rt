@@ -1,11 +1,12 @@
 // The listing piece by piece: the first line or the refusal, then the lines of as many plan words as there is room for.
-ghost use Rattle.listing.specs.Writing.{ListsPiece, Wrote, headOf, listedWords};
+ghost use Rattle.listing.specs.Pieces.{ListsPiece, headOf, listedWords};
+ghost use Rattle.text.specs.Writing.{Wrote};
 use crate::input::list_answer;
 use crate::input::plan_words;
 use crate::input::share_count;
 use crate::lines::list_part;
-use crate::text::first_line;
-use crate::text::refused_line;
+use text::line::first_line;
+use text::line::refused_line;
 use word::step_word::StepWord;
 
 // The plan words that are listed, at the front of `plan`: none where the input is turned down. The answer counts them.
@@ -37,7 +38,7 @@ pub struct Piece {
 }
 
 // One piece of the listing of an input, by its number: 0 first, then each that the piece before it says is next, up to the last. Where
-// `out` has less room than any word's lines may take, 34,344 bytes, no word is listed, and the piece's next is itself.
+// `out` has less room than any word's lines may take, no word is listed, and the piece's next is itself.
 pub fn list_piece(input: &[u8], from: usize, out: &mut [u8]) -> Piece
     ensures { λ r. ⌜ ListsPiece (now (input .entry)) from (now (out .entry)) (now (out .exit)) (r .bytes) (r .next) (r .last) ⌝ }
 {

@@ -3,5 +3,5 @@
 pub mod machines;
 pub mod numbers;
 pub mod on_shares;
-pub mod splitting;
-pub mod translation;
+pub mod programs;
+pub mod shares;

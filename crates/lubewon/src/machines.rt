@@ -2,9 +2,9 @@
 ghost use mathlib.Core.Path.{_≡_};
 ghost use lib.ListN.{length};
 ghost use Rattle.plain.specs.Call.{plainAnswer, plainCells};
-ghost use Rattle.masking.specs.Runs.{runAnswer, runCells, stepAnswer, stepCells};
-ghost use Rattle.shares.specs.Calls.{standing};
-use word::answer::Answer;
+ghost use Rattle.masking.specs.Demand3.{Demand3Holds};
+ghost use Rattle.masking.specs.Runs.{runAnswer, runCells, standing, stepAnswer, stepCells};
+use checks::answer::Answer;
 
 // Runs a plan on 32 plain cells.
 #[no_mangle]
@@ -15,7 +15,8 @@ pub extern "C" fn lubewon_plain_run(plan: &[u32], cells: &mut [u64]) -> Answer
     plain::plain_run(plan, cells)
 }
 
-// Runs the smaller of `budget` and the words left of a share program, from the places given.
+// Runs the smaller of `budget` and the words left of a share program, from the places given. What holds of such runs of a translated plan is
+// `Demand3Holds`.
 #[no_mangle]
 pub extern "C" fn lubewon_share_run(
     program: &[u32],
@@ -27,8 +28,9 @@ pub extern "C" fn lubewon_share_run(
 ) -> Answer
     ensures answer { λ r. ⌜ r ≡ runAnswer (now (program .entry)) (now (tape .entry)) (standing (now (cells .entry)) place «tape_place») budget ⌝ }
     ensures cells { λ _. ⌜ now (cells .exit) ≡ runCells (now (program .entry)) (now (tape .entry)) (standing (now (cells .entry)) place «tape_place») budget ⌝ }
+    ensures holds { λ _. ⌜ Demand3Holds ⌝ }
 {
-    shares::run::share_run(program, place, tape, tape_place, budget, cells)
+    running::run::share_run(program, place, tape, tape_place, budget, cells)
 }
 
 // Runs a single word of a share program.
@@ -42,5 +44,5 @@ pub extern "C" fn lubewon_one_share_step(
     ensures answer { λ r. ⌜ r ≡ stepAnswer word (now (tape .entry)) (now (cells .entry)) «tape_place» ⌝ }
     ensures cells { λ _. ⌜ now (cells .exit) ≡ stepCells word (now (tape .entry)) (now (cells .entry)) «tape_place» ⌝ }
 {
-    shares::run::one_share_step(word, tape, tape_place, cells)
+    running::run::one_share_step(word, tape, tape_place, cells)
 }

@@ -8,7 +8,7 @@ ghost use Rattle.plans.specs.Copy.{copyAnswer, copyOut};
 ghost use Rattle.plans.specs.ProductPlan.{productPlan};
 ghost use Rattle.plans.specs.SumPlan.{sumPlan};
 ghost use Rattle.plans.specs.FloorPlan.{floorPlan};
-use word::answer::Answer;
+use checks::answer::Answer;
 
 // The product of two words as numbers.
 #[no_mangle]

@@ -1,7 +1,11 @@
-// Product, sum and floor on shares for C.
+// Product, sum and floor on shares for C. What holds of them is `Masked`.
 ghost use mathlib.Core.Path.{_≡_};
-ghost use Rattle.operations.specs.Calls.{floorAnswer, floorResult, floorWork, productAnswer, productResult, productWork, sumAnswer, sumResult, sumWork};
-use word::answer::Answer;
+ghost use Rattle.plans.specs.ProductPlan.{productPlan};
+ghost use Rattle.plans.specs.SumPlan.{sumPlan};
+ghost use Rattle.plans.specs.FloorPlan.{floorPlan};
+ghost use Rattle.operations.specs.Masked.{Masked};
+ghost use Rattle.operations.specs.Shares.{callAnswer, resultAfter, workAfter, zerosFor};
+use checks::answer::Answer;
 
 // The product of shared operands; `work` has 512 words and is zeros afterwards.
 #[no_mangle]
@@ -12,11 +16,12 @@ pub extern "C" fn lubewon_product_shares(
     work: &mut [u64],
     tape: &[u64],
 ) -> Answer
-    ensures answer { λ r. ⌜ r ≡ productAnswer (now (x .entry)) (now (y .entry)) (now (result .entry)) (now (work .entry)) (now (tape .entry)) ⌝ }
-    ensures result { λ _. ⌜ now (result .exit) ≡ productResult (now (x .entry)) (now (y .entry)) (now (result .entry)) (now (work .entry)) (now (tape .entry)) ⌝ }
-    ensures work { λ _. ⌜ now (work .exit) ≡ productWork (now (x .entry)) (now (y .entry)) (now (result .entry)) (now (work .entry)) (now (tape .entry)) ⌝ }
+    ensures answer { λ r. ⌜ r ≡ callAnswer productPlan (now (x .entry)) (now (y .entry)) (now (result .entry)) (now (work .entry)) (now (tape .entry)) ⌝ }
+    ensures result { λ _. ⌜ now (result .exit) ≡ resultAfter productPlan (now (x .entry)) (now (y .entry)) (now (result .entry)) (now (work .entry)) (now (tape .entry)) ⌝ }
+    ensures work { λ _. ⌜ now (work .exit) ≡ workAfter productPlan (now (x .entry)) (now (y .entry)) (now (result .entry)) (now (work .entry)) (now (tape .entry)) ⌝ }
+    ensures holds { λ _. ⌜ Masked ⌝ }
 {
-    operations::operations::product(x, y, result, work, tape)
+    operations::product(x, y, result, work, tape)
 }
 
 // The sum of shared operands, likewise.
@@ -28,11 +33,12 @@ pub extern "C" fn lubewon_sum_shares(
     work: &mut [u64],
     tape: &[u64],
 ) -> Answer
-    ensures answer { λ r. ⌜ r ≡ sumAnswer (now (x .entry)) (now (y .entry)) (now (result .entry)) (now (work .entry)) (now (tape .entry)) ⌝ }
-    ensures result { λ _. ⌜ now (result .exit) ≡ sumResult (now (x .entry)) (now (y .entry)) (now (result .entry)) (now (work .entry)) (now (tape .entry)) ⌝ }
-    ensures work { λ _. ⌜ now (work .exit) ≡ sumWork (now (x .entry)) (now (y .entry)) (now (result .entry)) (now (work .entry)) (now (tape .entry)) ⌝ }
+    ensures answer { λ r. ⌜ r ≡ callAnswer sumPlan (now (x .entry)) (now (y .entry)) (now (result .entry)) (now (work .entry)) (now (tape .entry)) ⌝ }
+    ensures result { λ _. ⌜ now (result .exit) ≡ resultAfter sumPlan (now (x .entry)) (now (y .entry)) (now (result .entry)) (now (work .entry)) (now (tape .entry)) ⌝ }
+    ensures work { λ _. ⌜ now (work .exit) ≡ workAfter sumPlan (now (x .entry)) (now (y .entry)) (now (result .entry)) (now (work .entry)) (now (tape .entry)) ⌝ }
+    ensures holds { λ _. ⌜ Masked ⌝ }
 {
-    operations::operations::sum(x, y, result, work, tape)
+    operations::sum(x, y, result, work, tape)
 }
 
 // The floor of a shared operand, likewise.
@@ -43,9 +49,10 @@ pub extern "C" fn lubewon_floor_shares(
     work: &mut [u64],
     tape: &[u64],
 ) -> Answer
-    ensures answer { λ r. ⌜ r ≡ floorAnswer (now (x .entry)) (now (result .entry)) (now (work .entry)) (now (tape .entry)) ⌝ }
-    ensures result { λ _. ⌜ now (result .exit) ≡ floorResult (now (x .entry)) (now (result .entry)) (now (work .entry)) (now (tape .entry)) ⌝ }
-    ensures work { λ _. ⌜ now (work .exit) ≡ floorWork (now (x .entry)) (now (result .entry)) (now (work .entry)) (now (tape .entry)) ⌝ }
+    ensures answer { λ r. ⌜ r ≡ callAnswer floorPlan (now (x .entry)) (zerosFor (now (x .entry))) (now (result .entry)) (now (work .entry)) (now (tape .entry)) ⌝ }
+    ensures result { λ _. ⌜ now (result .exit) ≡ resultAfter floorPlan (now (x .entry)) (zerosFor (now (x .entry))) (now (result .entry)) (now (work .entry)) (now (tape .entry)) ⌝ }
+    ensures work { λ _. ⌜ now (work .exit) ≡ workAfter floorPlan (now (x .entry)) (zerosFor (now (x .entry))) (now (result .entry)) (now (work .entry)) (now (tape .entry)) ⌝ }
+    ensures holds { λ _. ⌜ Masked ⌝ }
 {
-    operations::operations::floor(x, result, work, tape)
+    operations::floor(x, result, work, tape)
 }

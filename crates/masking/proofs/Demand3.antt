@@ -11,7 +11,7 @@ use Rattle.masking.specs.Foretold.{Accepted, foretoldTape}
 use Rattle.masking.specs.Machine.{exec, rands, Words, Start}
 use Rattle.masking.specs.Unsplit.{joined}
 use Rattle.masking.specs.Runs.{State, due, runAnswer, inARow, wordsDone, tapeUsed}
-use Rattle.masking.specs.Demand3.{atStart, InARow, Demand3Holds}
+use Rattle.masking.specs.Demand3.{begun, InARow, Demand3Holds}
 use Rattle.masking.proofs.emitted.Steps.{program-append, take-accepted}
 use Rattle.masking.proofs.emitted.Counts.{plan-counts}
 use Rattle.masking.proofs.joined.Cells.{drop-words}
@@ -30,7 +30,7 @@ module _ (n : ℕ) (plan : List ℕ) (A : Accepted n plan) (start tape : List �
   P = program n plan
 
   abbrev st₀ : State
-  st₀ = atStart n plan start tape p₀
+  st₀ = begun n plan start tape p₀
 
   abbrev Here : State → Type 0
   Here = Reached P tape start p₀ (plan-counts n plan A .longest) (plan-counts n plan A .good)
@@ -70,7 +70,7 @@ module _ (n : ℕ) (plan : List ℕ) (A : Accepted n plan) (start tape : List �
       record {
         each = λ before rest b e. each-run P tape start p₀ (plan-counts n plan A .longest) (plan-counts n plan A .good) (inARow P tape st₀ before) (reached before) b;
         cells = cells-are budgets;
-        used = used-are budgets;
+        rand = used-are budgets;
         place = at-m budgets;
         tapeMoved = tape-sum P tape st₀ budgets;
         joins = λ k e r l. ap (λ c. joined n c r) (cells-are budgets ∙ ap (λ ws. exec ws (drop p₀ tape) start) (first-words n plan k (m budgets) e)) ∙ joined-after n plan A start (drop p₀ tape) (S .size) (S .words) (drop-words tape W p₀) k r l;

@@ -3,7 +3,7 @@
 use mathlib.Core.Path.{_≡_, refl, sym, ap, ap₂, _∙_, subst}
 use mathlib.Core.List.{List, [], _∷_, _++_}
 use Prim.Native.Nat.{ℕ, zero, suc, _+_, _-_, _≤_, _<_, min}
-use native.Mathlib.Nat.{add-assoc, add-zero, le-of-eq, zero-min, min-zero, suc-min-suc}
+use native.Mathlib.Nat.{add-assoc, add-zero, zero-min, min-zero, suc-min-suc}
 use native.Mathlib.Decide.{decLt}
 use native.Mathlib.Omega.{arith}
 use lib.Dec.{ltb}
@@ -13,10 +13,11 @@ use borrow.Author.Tests.{lt-ltb, le-ltb, eq-eqb}
 use Rattle.word.specs.declared.step.Step.{Step}
 use Rattle.word.specs.declared.step.Decoded.{Decoded}
 use Rattle.word.specs.declared.step.Decoded.the-variants.{Good, Bad}
-use Rattle.word.specs.declared.answer.Answer.{Answer}
-use Rattle.word.specs.Word.{programStep}
+use Rattle.checks.specs.declared.answer.Answer.{Answer}
+use Rattle.word.specs.Encoding.{programStep}
 use Rattle.word.specs.Layout.{programMax}
-use Rattle.word.specs.Answers.{firstBad, done, refused, given, afterCall}
+use Rattle.checks.specs.Answers.{firstBad, done, refused, given, afterCall}
+use Rattle.checks.proofs.Checked.{program-check}
 use Rattle.word.specs.Table.{dest, becomes}
 use Rattle.masking.specs.Machine.{takes, withStep, stepsOf, execStep, execSteps, randsOf, exec, rands}
 use Rattle.masking.specs.Runs.{State, due, runAnswer, moved, inARow, wordsDone, tapeUsed}
@@ -93,9 +94,8 @@ module _ (P tape start : List ℕ) (p₀ : ℕ) (short : length P ≤ programMax
     answer-is : runAnswer P tape st b
         ≡ given (ltb (length tape - st .tapePlace) (rands (due P (st .place) b))) (refused 6) (done (length (due P (st .place) b)) (rands (due P (st .place) b)))
     answer-is =
-        rw (
-          le-ltb programMax (length P) short,
-          le-ltb (firstBad programStep P) (length P) (le-of-eq (sym good)),
+        program-check .next P (record { short = short; good = good }) _
+        ∙ rw (
           eq-eqb (length (st .cells)) 512 (r .size),
           le-ltb (length P) (st .place) (r .within),
           le-ltb (length tape) (st .tapePlace) (r .inTape),

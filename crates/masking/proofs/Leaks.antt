@@ -1,8 +1,6 @@
--- Document 01's cut "AND without the refresh: with a = b, u holds two shares of one number", as a theorem: for either share there are two
--- starts that agree in it and whose words at u differ over all tapes, so that no pairing of tapes hides that step. So the secrecy of
--- specs/Secrecy is no empty demand. Rests on computing the share machine, and on Cells for what stores leave.
+-- An AND without its refresh leaks. Rests on computing the share machine, and on the plain machine's Laws for what stores leave.
 use mathlib.Core.Path.{_≡_, refl, sym, ap, _∙_, subst}
-use mathlib.Core.List.{List, [], _∷_}
+use mathlib.Core.List.{List}
 use Prim.Native.Nat.{ℕ, zero, suc, _+_, _*_, _<_, _^_}
 use native.Mathlib.Omega.{arith}
 use native.Mathlib.Decide.{ℕ-discrete}
@@ -10,28 +8,9 @@ use lib.ListN.{getD, set, replicate}
 use lib.Pow.{pow-pos}
 use lib.Seq.{getD-set-same, getD-set-other}
 use Rattle.bits.specs.Ops.{andW, shlW}
-use Rattle.word.specs.declared.step.Step.{Step}
-use Rattle.word.specs.declared.step.Step.the-variants.{Shl, And, Xor, Rand}
-use Rattle.masking.specs.Machine.{Start, Words, execStep, execSteps}
-use Rattle.masking.specs.Secrecy.{Agree}
-use Rattle.masking.proofs.joined.Cells.{set-words}
-
--- AND 1 0 0 for two shares, up to the first cross product, with y as it was copied
-abbrev pub unrefreshed : List Step
-unrefreshed = Shl 256 0 0 ∷ Shl 257 32 0 ∷ And 264 0 256 ∷ And 265 32 257 ∷ Rand 272 ∷ Xor 264 264 272 ∷ And 273 0 257 ∷ []
-
--- the word at u
-abbrev pub atU : List ℕ → List ℕ → ℕ
-atU cells tape = getD (execSteps unrefreshed tape cells) 273 0
-
--- two starts that agree in share i, with different words there over any two tapes
-pub record Leak (i : ℕ) : Type 0 where
-  pub l : List ℕ
-  pub l′ : List ℕ
-  pub start : Start l
-  pub start′ : Start l′
-  pub agree : Agree i l l′
-  pub differ : (tape tape′ : List ℕ) → atU l tape ≡ atU l′ tape′ → ⊥
+use Rattle.plain.proofs.Laws.{set-words}
+use Rattle.masking.specs.Machine.{Start, Words, execStep}
+use Rattle.masking.specs.Leaks.{atU, Leak, UnrefreshedLeaks}
 
 zero-at : (n k : ℕ) → getD {A = ℕ} (replicate n 0) k 0 ≡ 0
 zero-at zero k = refl
@@ -79,7 +58,7 @@ of-1-1 : (tape : List ℕ) → atU (shared 1 1) tape ≡ 1
 unfolding execStep andW shlW
 of-1-1 tape = refl
 
-pub leak-0 : Leak 0
+leak-0 : Leak 0
 leak-0 =
     record {
       l = shared 1 0;
@@ -90,7 +69,7 @@ leak-0 =
       differ = λ tape tape′ e. let z : _≡_ {A = ℕ} 0 1 = sym (of-1-0 tape) ∙ e ∙ of-1-1 tape′ in absurd (omega arith);
     }
 
-pub leak-1 : Leak 1
+leak-1 : Leak 1
 leak-1 =
     record {
       l = shared 0 1;
@@ -100,3 +79,6 @@ leak-1 =
       agree = λ r h. beside-0 0 1 1 (32 * 1 + r) (λ e. omega arith);
       differ = λ tape tape′ e. let z : _≡_ {A = ℕ} 0 1 = sym (of-0-1 tape) ∙ e ∙ of-1-1 tape′ in absurd (omega arith);
     }
+
+pub unrefreshed-leaks : UnrefreshedLeaks
+unrefreshed-leaks = (leak-0, leak-1)

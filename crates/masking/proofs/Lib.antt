@@ -1,7 +1,8 @@
--- Worked examples (Examples), and that an AND without its refresh leaks (Leaks). Share programs proved, each part over those above it: what a translation emits (emitted), what it computes joined (joined), what its
--- steps hide (secret), share runs in a row (InARow), and demand 3, which puts them together (Demand3).
-mod Examples
-mod Leaks
+-- Share programs proved, each part over those above it: what a translation emits (emitted), what it computes joined (joined), what its steps
+-- hide (secret), share runs in a row (InARow), and demand 3, which puts them together (Demand3). Beside these, worked examples (Examples), and
+-- that an AND without its refresh leaks (Leaks).
+pub mod Examples
+pub mod Leaks
 pub mod emitted
 pub mod joined
 pub mod secret

@@ -6,10 +6,10 @@ use Prim.Native.Nat.{ℕ, _*_, _+_, _-_, _%_, _≤_}
 use lib.Dec.{T, ltb, leb}
 use lib.ListN.{length}
 use Rattle.word.specs.declared.step.Step.{Step}
-use Rattle.word.specs.declared.step.Step.the-variants.{Const, Xor, And, Not, Shl, Shr, Spread, Add, Rand}
-use Rattle.word.specs.Word.{programStep, inPlan, inProgram, kindNumber}
+use Rattle.word.specs.Encoding.{programStep, inPlan, inProgram, kindNumber}
+use Rattle.word.specs.Table.{naming}
 use Rattle.word.specs.Layout.{lengthOf, tapeOf, programMax}
-use Rattle.word.specs.Answers.{firstBad}
+use Rattle.checks.specs.Answers.{firstBad}
 use Rattle.masking.specs.Translation.{translated, program}
 use Rattle.masking.specs.Foretold.{Accepted, foretoldWords, foretoldTape}
 use Rattle.masking.specs.Machine.{randsOf, rands}
@@ -23,18 +23,7 @@ usedCell n c =
     || (leb 272 c && ltb c 274
     || (leb 288 c && (ltb c (288 + 8 * n) && ltb ((c - 288) % 8) 4)))))
 
--- all cells that a step names are such cells
-abbrev pub naming : (ℕ → Bool) → Step → Bool
-naming p (Const d k) = p d
-naming p (Xor d a b) = p d && (p a && p b)
-naming p (And d a b) = p d && (p a && p b)
-naming p (Not d a) = p d && p a
-naming p (Shl d a b) = p d && p a
-naming p (Shr d a b) = p d && p a
-naming p (Spread d a) = p d && p a
-naming p (Add d a b) = p d && (p a && p b)
-naming p (Rand d) = p d
-
+-- a test of each step of a list
 abbrev pub allOf : (Step → Bool) → List Step → Bool
 allOf p [] = true
 allOf p (s ∷ ss) = p s && allOf p ss

@@ -5,15 +5,14 @@ use mathlib.Core.Path.{_≡_}
 use mathlib.Core.List.{List, _∷_, _++_}
 use Prim.Native.Nat.{ℕ, _+_, _-_, _≤_, _<_, min}
 use lib.ListN.{length, getD, take, drop}
-use Rattle.word.specs.Answers.{done, refused}
+use Rattle.checks.specs.Answers.{done, refused}
 use Rattle.plain.specs.Machine.{run}
 use Rattle.masking.specs.Translation.{program}
 use Rattle.masking.specs.Foretold.{Accepted, foretoldTape}
-use Rattle.masking.specs.Machine.{exec, rands, Words}
+use Rattle.masking.specs.Machine.{exec, rands, Words, Start}
 use Rattle.masking.specs.Unsplit.{joined, unsplit}
-use Rattle.masking.specs.Runs.{State, due, runAnswer, moved, inARow, wordsDone, tapeUsed}
+use Rattle.masking.specs.Runs.{State, standing, due, runAnswer, moved, inARow, wordsDone, tapeUsed}
 use Rattle.masking.specs.Secrecy.{Secret}
-use Rattle.masking.specs.Machine.{Start}
 
 -- one run from where the last one left off: "turned down exactly when its steps hold more RAND than tape remains (6), and then moves
 -- nothing; otherwise it does the smaller of its budget and the words left, and reports just that"
@@ -25,31 +24,41 @@ pub record EachRun (words tape : List ℕ) (st : State) (budget : ℕ) : Type 0 
 
 -- a list of runs, one for each budget, over the tape from its place on
 module _ (n : ℕ) (plan start tape : List ℕ) (tapePlace : ℕ) where
-  abbrev pub atStart : State
-  atStart = record { cells = start; place = 0; tapePlace = tapePlace }
+  -- the words that Translate wrote, and "program place 0"
+  abbrev pub words : List ℕ
+  words = program n plan
+
+  abbrev pub begun : State
+  begun = standing start 0 tapePlace
+
+  -- where the runs leave off, "m the sum of the words done", and the tape words used
+  abbrev pub left : List ℕ → State
+  left budgets = inARow words tape begun budgets
+
+  abbrev pub m : List ℕ → ℕ
+  m budgets = wordsDone words tape begun budgets
+
+  abbrev pub used : List ℕ → ℕ
+  used budgets = tapeUsed words tape begun budgets
 
   pub record InARow (budgets : List ℕ) : Type 0 where
     -- each run of the list
-    pub each : (before rest : List ℕ) (b : ℕ) → budgets ≡ before ++ (b ∷ rest)
-        → EachRun (program n plan) tape (inARow (program n plan) tape atStart before) b
+    pub each : (before rest : List ℕ) (b : ℕ) → budgets ≡ before ++ (b ∷ rest) → EachRun words tape (left before) b
     -- "After the list the cells are what the first m words make of the start, m the sum of the words done; the tape words used are the
     -- RANDs among those m."
-    pub cells : inARow (program n plan) tape atStart budgets .cells
-        ≡ exec (take (wordsDone (program n plan) tape atStart budgets) (program n plan)) (drop tapePlace tape) start
-    pub used : tapeUsed (program n plan) tape atStart budgets ≡ rands (take (wordsDone (program n plan) tape atStart budgets) (program n plan))
+    pub cells : left budgets .cells ≡ exec (take (m budgets) words) (drop tapePlace tape) start
+    pub rand : used budgets ≡ rands (take (m budgets) words)
     -- the places moved on by just these sums
-    pub place : inARow (program n plan) tape atStart budgets .place ≡ wordsDone (program n plan) tape atStart budgets
-    pub tapeMoved : inARow (program n plan) tape atStart budgets .tapePlace ≡ tapePlace + tapeUsed (program n plan) tape atStart budgets
+    pub place : left budgets .place ≡ m budgets
+    pub tapeMoved : left budgets .tapePlace ≡ tapePlace + used budgets
     -- where the words done translate the plan's first k words, every register joins to what those k words give unsplit, and the tape
     -- words used are those foretold for them
-    pub joins : (k : ℕ) → wordsDone (program n plan) tape atStart budgets ≡ length (program n (take k plan))
-        → (r : ℕ) → r < 32 → joined n (inARow (program n plan) tape atStart budgets .cells) r ≡ getD (run (take k plan) (unsplit n start)) r 0
-    pub foretold : (k : ℕ) → wordsDone (program n plan) tape atStart budgets ≡ length (program n (take k plan))
-        → tapeUsed (program n plan) tape atStart budgets ≡ foretoldTape n (take k plan)
+    pub joins : (k : ℕ) → m budgets ≡ length (program n (take k plan))
+        → (r : ℕ) → r < 32 → joined n (left budgets .cells) r ≡ getD (run (take k plan) (unsplit n start)) r 0
+    pub foretold : (k : ℕ) → m budgets ≡ length (program n (take k plan)) → used budgets ≡ foretoldTape n (take k plan)
     -- over a tape as long as foretold no run is turned down
     pub enough : foretoldTape n plan ≤ length tape - tapePlace
-        → (before rest : List ℕ) (b : ℕ) → budgets ≡ before ++ (b ∷ rest)
-        → runAnswer (program n plan) tape (inARow (program n plan) tape atStart before) b .number ≡ 0
+        → (before rest : List ℕ) (b : ℕ) → budgets ≡ before ++ (b ∷ rest) → runAnswer words tape (left before) b .number ≡ 0
 
 pub record Demand3 (n : ℕ) (plan : List ℕ) : Type 0 where
   pub runs : (start tape : List ℕ) → Start start → Words tape → (tapePlace : ℕ) → tapePlace ≤ length tape

@@ -3,9 +3,9 @@ use mathlib.Core.List.{List, [], _∷_}
 use Prim.Native.Nat.{ℕ, _+_, _≤_}
 use mathlib.Core.Path.{_≡_}
 use lib.ListN.{length}
-use Rattle.word.specs.Word.{planStep, kindOf}
+use Rattle.word.specs.Encoding.{planStep, kindOf}
 use Rattle.word.specs.Layout.{lengthOf, tapeOf, planMax}
-use Rattle.word.specs.Answers.{firstBad}
+use Rattle.checks.specs.Answers.{firstBad}
 
 -- share words: "Each n words", "5n² − 2n words", "60n² − 3n words"
 abbrev pub foretoldWords : ℕ → List ℕ → ℕ

@@ -1,5 +1,6 @@
 -- Share programs: the translation (Translation), the counts foretold (Foretold), the share machine (Machine), share runs in a row
--- (Runs), the unsplit machine (Unsplit), and the statements proved of them: counts (Counts), secrecy (Secrecy), demand 3 (Demand3).
+-- (Runs), the unsplit machine (Unsplit), and the statements proved of them: counts (Counts), secrecy (Secrecy), demand 3 (Demand3), that
+-- AND needs its refresh (Leaks), and worked examples (Examples).
 pub mod Translation
 pub mod Foretold
 pub mod Machine
@@ -8,3 +9,5 @@ pub mod Unsplit
 pub mod Counts
 pub mod Secrecy
 pub mod Demand3
+pub mod Leaks
+pub mod Examples

@@ -8,7 +8,7 @@ use Rattle.word.specs.declared.step.Step.{Step}
 use Rattle.word.specs.declared.step.Step.the-variants.{Const, Xor, And, Not, Shl, Shr, Spread, Add, Rand}
 use Rattle.word.specs.declared.step.Decoded.{Decoded}
 use Rattle.word.specs.declared.step.Decoded.the-variants.{Good, Bad}
-use Rattle.word.specs.Word.{programStep}
+use Rattle.word.specs.Encoding.{programStep}
 use Rattle.word.specs.Table.{dest, becomes}
 
 -- tape words that a step takes

@@ -4,10 +4,8 @@ use mathlib.Core.List.{List, [], _∷_}
 use Prim.Native.Nat.{ℕ, _+_, _-_}
 use lib.Dec.{ltb, eqb}
 use lib.ListN.{length, take, drop}
-use Rattle.word.specs.declared.answer.Answer.{Answer}
-use Rattle.word.specs.Word.{programStep}
-use Rattle.word.specs.Layout.{programMax}
-use Rattle.word.specs.Answers.{firstBad, done, refused, badAt, given, afterCall}
+use Rattle.checks.specs.declared.answer.Answer.{Answer}
+use Rattle.checks.specs.Answers.{done, refused, given, programChecked, afterCall}
 use Rattle.masking.specs.Machine.{exec, rands}
 
 -- where a share run stands: the cells, the program place and the tape place
@@ -15,6 +13,9 @@ pub record State : Type 0 where
   pub cells : List ℕ
   pub place : ℕ
   pub tapePlace : ℕ
+
+abbrev pub standing : List ℕ → ℕ → ℕ → State
+standing cells place tapePlace = record { cells = cells; place = place; tapePlace = tapePlace }
 
 -- the words of a run: "It does the smaller of budget and words left"
 abbrev pub due : List ℕ → ℕ → ℕ → List ℕ
@@ -24,12 +25,11 @@ due program place budget = take budget (drop place program)
 -- program or tape ("Place equal to the length is allowed."); "6 if those steps hold more RAND than tape remains"
 abbrev pub runAnswer : List ℕ → List ℕ → State → ℕ → Answer
 runAnswer program tape st budget =
-    given (ltb programMax (length program)) (refused 2)
-    (given (ltb (firstBad programStep program) (length program)) (badAt (firstBad programStep program))
+    programChecked program
     (given (not (eqb (length (st .cells)) 512)) (refused 4)
     (given (ltb (length program) (st .place) || ltb (length tape) (st .tapePlace)) (refused 5)
     (given (ltb (length tape - st .tapePlace) (rands (due program (st .place) budget))) (refused 6)
-    (done (length (due program (st .place) budget)) (rands (due program (st .place) budget)))))))
+    (done (length (due program (st .place) budget)) (rands (due program (st .place) budget))))))
 
 -- the cells afterwards: what those words make of them, or as they were
 abbrev pub runCells : List ℕ → List ℕ → State → ℕ → List ℕ
@@ -39,10 +39,10 @@ runCells program tape st budget =
 -- "One share step (3 to 6): a single word and a tape place, likewise."
 -- A program of that word, at place 0, with a budget of 1; 2 cannot come.
 abbrev pub stepAnswer : ℕ → List ℕ → List ℕ → ℕ → Answer
-stepAnswer word tape cells tapePlace = runAnswer (word ∷ []) tape (record { cells = cells; place = 0; tapePlace = tapePlace }) 1
+stepAnswer word tape cells tapePlace = runAnswer (word ∷ []) tape (standing cells 0 tapePlace) 1
 
 abbrev pub stepCells : ℕ → List ℕ → List ℕ → ℕ → List ℕ
-stepCells word tape cells tapePlace = runCells (word ∷ []) tape (record { cells = cells; place = 0; tapePlace = tapePlace }) 1
+stepCells word tape cells tapePlace = runCells (word ∷ []) tape (standing cells 0 tapePlace) 1
 
 -- "In a list of share runs each gets that program and tape, the cells as the last one left them, and places moved on by the words done
 -- and tape words used so far."

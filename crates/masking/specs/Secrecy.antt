@@ -4,12 +4,12 @@ use mathlib.Core.Path.{_≡_}
 use mathlib.Core.List.{List, _++_}
 use Prim.Native.Nat.{ℕ, suc, _<_}
 use lib.ListN.{length, getD}
-use Rattle.word.specs.Word.{fieldD}
+use Rattle.word.specs.Encoding.{fieldD}
 use Rattle.word.specs.Layout.{cell}
 use Rattle.masking.specs.Translation.{program}
 use Rattle.masking.specs.Foretold.{foretoldTape}
 use Rattle.masking.specs.Machine.{Start, Words}
-use Rattle.masking.specs.Runs.{inARow, wordsDone}
+use Rattle.masking.specs.Runs.{State, standing, inARow, wordsDone}
 
 -- "agree in share i, i below n, if cells 32i + r are equal for all registers r; other cells may differ"
 abbrev pub Agree : ℕ → List ℕ → List ℕ → Type 0
@@ -29,15 +29,17 @@ pub record Pairing (L : ℕ) : Type 0 where
   pub back-there : (tape : List ℕ) → Tape L tape → back (there tape) ≡ tape
   pub there-back : (tape : List ℕ) → Tape L tape → there (back tape) ≡ tape
 
--- "A step's word is what its cell d holds after a list whose last word done is that step." A list of runs over the tape that follows
--- the words `before`, from its place on, with these budgets
-abbrev pub wordAfter : ℕ → List ℕ → ℕ → List ℕ → List ℕ → List ℕ → List ℕ → ℕ
-wordAfter n plan s cells before tape budgets =
-    getD (inARow (program n plan) (before ++ tape) (record { cells = cells; place = 0; tapePlace = length before }) budgets .cells) (fieldD (getD (program n plan) s 0)) 0
+-- a list of runs with these budgets, over the tape that follows the words `before`, from its place on: where it leaves off, the words done
+module _ (n : ℕ) (plan cells before tape budgets : List ℕ) where
+  abbrev pub leftAfter : State
+  leftAfter = inARow (program n plan) (before ++ tape) (standing cells 0 (length before)) budgets
 
-abbrev pub doneAfter : ℕ → List ℕ → List ℕ → List ℕ → List ℕ → List ℕ → ℕ
-doneAfter n plan cells before tape budgets =
-    wordsDone (program n plan) (before ++ tape) (record { cells = cells; place = 0; tapePlace = length before }) budgets
+  abbrev pub doneAfter : ℕ
+  doneAfter = wordsDone (program n plan) (before ++ tape) (standing cells 0 (length before)) budgets
+
+-- "A step's word is what its cell d holds after a list whose last word done is that step."
+abbrev pub wordAfter : ℕ → List ℕ → ℕ → List ℕ → List ℕ → List ℕ → List ℕ → ℕ
+wordAfter n plan s cells before tape budgets = getD (leftAfter n plan cells before tape budgets .cells) (fieldD (getD (program n plan) s 0)) 0
 
 -- paired runs write equal words at step s
 pub record Hidden (n : ℕ) (plan : List ℕ) (s : ℕ) (l l′ : List ℕ) : Type 0 where

@@ -8,7 +8,7 @@ use Rattle.word.specs.declared.step.Step.{Step}
 use Rattle.word.specs.declared.step.Step.the-variants.{Const, Xor, And, Not, Shl, Shr, Spread, Add, Rand}
 use Rattle.word.specs.declared.step.Decoded.{Decoded}
 use Rattle.word.specs.declared.step.Decoded.the-variants.{Good, Bad}
-use Rattle.word.specs.Word.{planStep, wordOf}
+use Rattle.word.specs.Encoding.{planStep, wordOf}
 use Rattle.word.specs.Layout.{cell, cellY, cellZ, cellT, cellU, helper}
 
 -- c numbers from s on
@@ -37,6 +37,10 @@ pairs (i ∷ is) = pairsOf i is ++ pairs is
 unfoldable pub shareCell : ℕ → ℕ → ℕ
 shareCell i r = cond (ltb r 32) (cell i r) (helper i (r - 32))
 
+-- where a register's shares lie: the cell of each share number
+abbrev pub cellsOf : ℕ → ℕ → ℕ
+cellsOf r i = shareCell i r
+
 -- a step of share 0, and one of the others
 abbrev pub firstOther : ℕ → Step → Step → Step
 firstOther zero s o = s
@@ -59,37 +63,50 @@ refresh c [] = []
 refresh c (p ∷ ps) = Rand (c .t) ∷ Xor (c .y (p .lo)) (c .y (p .lo)) (c .t) ∷ Xor (c .y (p .hi)) (c .y (p .hi)) (c .t) ∷ refresh c ps
 
 -- "for each pair: RAND t; z_i XOR t; u (cell 273) = a_i AND y_j; t XOR u; u = a_j AND y_i; t XOR u; z_j XOR t"
-abbrev pub products : Scratch → ℕ → List Pair → List Step
+abbrev pub products : Scratch → (ℕ → ℕ) → List Pair → List Step
 products c a [] = []
 products c a (p ∷ ps) =
     Rand (c .t)
     ∷ Xor (c .z (p .lo)) (c .z (p .lo)) (c .t)
-    ∷ And (c .u) (shareCell (p .lo) a) (c .y (p .hi))
+    ∷ And (c .u) (a (p .lo)) (c .y (p .hi))
     ∷ Xor (c .t) (c .t) (c .u)
-    ∷ And (c .u) (shareCell (p .hi) a) (c .y (p .lo))
+    ∷ And (c .u) (a (p .hi)) (c .y (p .lo))
     ∷ Xor (c .t) (c .t) (c .u)
     ∷ Xor (c .z (p .hi)) (c .z (p .hi)) (c .t)
     ∷ products c a ps
 
--- "AND .. : copy b's shares to y .. Last, copy z to d." ("a copy is SHL 0")
-unfoldable pub andBlock : Scratch → ℕ → ℕ → ℕ → ℕ → List Step
+-- "AND .. : copy b's shares to y .. Last, copy z to d." ("a copy is SHL 0") Over the cells of the shares of d, a and b, and over any choice
+-- of scratch cells.
+unfoldable pub andBlock : Scratch → ℕ → (ℕ → ℕ) → (ℕ → ℕ) → (ℕ → ℕ) → List Step
 andBlock c n d a b =
-    map (λ i. Shl (c .y i) (shareCell i b) 0) (shares n)
+    map (λ i. Shl (c .y i) (b i) 0) (shares n)
     ++ (refresh c (pairs (shares n))
-    ++ (map (λ i. And (c .z i) (shareCell i a) (c .y i)) (shares n)
+    ++ (map (λ i. And (c .z i) (a i) (c .y i)) (shares n)
     ++ (products c a (pairs (shares n))
-    ++ map (λ i. Shl (shareCell i d) (c .z i) 0) (shares n))))
+    ++ map (λ i. Shl (d i) (c .z i) 0) (shares n))))
 
--- the share steps of one step on registers. "CONST: share 0 gets k, the others 0. NOT: share 0 inverted, the others copied by SHL 0.
--- XOR, SHL, SHR, SPREAD: once per share." ADD is laid out by `adding` first.
+-- share i's step of a step on registers. "CONST: share 0 gets k, the others 0. NOT: share 0 inverted, the others copied by SHL 0. XOR, SHL,
+-- SHR, SPREAD: once per share." AND, ADD and RAND have none.
+abbrev pub shareStep : Step → ℕ → Step
+shareStep (Const d k) i = firstOther i (Const (shareCell i d) k) (Const (shareCell i d) 0)
+shareStep (Xor d a b) i = Xor (shareCell i d) (shareCell i a) (shareCell i b)
+shareStep (And d a b) i = And d a b
+shareStep (Not d a) i = firstOther i (Not (shareCell i d) (shareCell i a)) (Shl (shareCell i d) (shareCell i a) 0)
+shareStep (Shl d a b) i = Shl (shareCell i d) (shareCell i a) b
+shareStep (Shr d a b) i = Shr (shareCell i d) (shareCell i a) b
+shareStep (Spread d a) i = Spread (shareCell i d) (shareCell i a)
+shareStep (Add d a b) i = Add d a b
+shareStep (Rand d) i = Rand d
+
+-- the share steps of a step on registers; ADD is laid out by `adding` first
 abbrev pub block : Scratch → ℕ → Step → List Step
-block c n (Const d k) = map (λ i. firstOther i (Const (shareCell i d) k) (Const (shareCell i d) 0)) (shares n)
-block c n (Xor d a b) = map (λ i. Xor (shareCell i d) (shareCell i a) (shareCell i b)) (shares n)
-block c n (And d a b) = andBlock c n d a b
-block c n (Not d a) = map (λ i. firstOther i (Not (shareCell i d) (shareCell i a)) (Shl (shareCell i d) (shareCell i a) 0)) (shares n)
-block c n (Shl d a b) = map (λ i. Shl (shareCell i d) (shareCell i a) b) (shares n)
-block c n (Shr d a b) = map (λ i. Shr (shareCell i d) (shareCell i a) b) (shares n)
-block c n (Spread d a) = map (λ i. Spread (shareCell i d) (shareCell i a)) (shares n)
+block c n (Const d k) = map (shareStep (Const d k)) (shares n)
+block c n (Xor d a b) = map (shareStep (Xor d a b)) (shares n)
+block c n (And d a b) = andBlock c n (cellsOf d) (cellsOf a) (cellsOf b)
+block c n (Not d a) = map (shareStep (Not d a)) (shares n)
+block c n (Shl d a b) = map (shareStep (Shl d a b)) (shares n)
+block c n (Shr d a b) = map (shareStep (Shr d a b)) (shares n)
+block c n (Spread d a) = map (shareStep (Spread d a)) (shares n)
 block c n (Add d a b) = []
 block c n (Rand d) = []
 

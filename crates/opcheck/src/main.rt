@@ -27,7 +27,7 @@ const EDGES: [u64; 16] = [
 const DRAWN: u64 = 100;
 
 fn joined(shares: &[u64]) -> u64 {
-    let j = operations::splitting::join(shares);
+    let j = splitting::join(shares);
     j.word
 }
 
@@ -38,26 +38,26 @@ fn off(number: u32, word: u64, plain: u64) -> u64 {
 
 fn product_off(a: u64, b: u64, x: &[u64], y: &[u64], tape: &[u64], result: &mut [u64]) -> u64 {
     let mut work = [0u64; 512];
-    let answer = operations::operations::product(x, y, result, &mut work, tape);
+    let answer = operations::product(x, y, result, &mut work, tape);
     off(answer.number, joined(result), binary64::product(a, b))
 }
 
 fn sum_off(a: u64, b: u64, x: &[u64], y: &[u64], tape: &[u64], result: &mut [u64]) -> u64 {
     let mut work = [0u64; 512];
-    let answer = operations::operations::sum(x, y, result, &mut work, tape);
+    let answer = operations::sum(x, y, result, &mut work, tape);
     off(answer.number, joined(result), binary64::sum(a, b))
 }
 
 fn floor_off(a: u64, x: &[u64], tape: &[u64], result: &mut [u64]) -> u64 {
     let mut work = [0u64; 512];
-    let answer = operations::operations::floor(x, result, &mut work, tape);
+    let answer = operations::floor(x, result, &mut work, tape);
     off(answer.number, joined(result), binary64::floor(a))
 }
 
 // A pair split into as many shares as the lent slices have words.
 fn split_pair(a: u64, b: u64, tape: &[u64], masks: &[u64], x: &mut [u64], y: &mut [u64]) {
-    operations::splitting::split(a, masks, x);
-    operations::splitting::split(b, tape, y);
+    splitting::split(a, masks, x);
+    splitting::split(b, tape, y);
 }
 
 // How many of the three operations are off on shares x and y of a and b.

@@ -6,11 +6,11 @@ use Prim.Native.Nat.{ℕ, _≤_}
 use native.Mathlib.Omega.{arith}
 use lib.Dec.{ltb, eqb}
 use borrow.Author.Tests.{ltb-false, eqb-true, not-false}
-use Rattle.word.specs.declared.answer.Answer.{Answer}
+use Rattle.checks.specs.declared.answer.Answer.{Answer}
 use Rattle.word.specs.Layout.{isShareCount}
 use Rattle.word.proofs.Small.{share-range}
-use Rattle.word.proofs.Passed.{passed}
-use Rattle.word.specs.Answers.{done, refused}
+use Rattle.checks.proofs.Passed.{passed}
+use Rattle.checks.specs.Answers.{refused}
 use Rattle.masking.specs.Foretold.{foretoldTape}
 use Rattle.operations.specs.Shares.{operationAnswer}
 

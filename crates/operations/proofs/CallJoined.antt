@@ -5,16 +5,11 @@ use Prim.Native.Nat.{ℕ}
 use lib.ListN.{length}
 use borrow.Author.Tests.{eq-eqb}
 use Rattle.operations.specs.Shares.{callAnswer}
-use Rattle.operations.specs.Masked.{Joins, JoinsOne, CallJoins, CallJoinsOne}
+use Rattle.operations.specs.Masked.{Joins, CallJoins}
 use Rattle.operations.proofs.Answering.{ready}
 
 pub call-joins : (plan : List ℕ) (op : ℕ → ℕ → ℕ) → Joins plan op → CallJoins plan op
 call-joins plan op joins x y result work tape wx wy wt e =
-    let r = ready plan (length x) (length y) (length result) (length work) (length tape) (callAnswer plan x (length y) result work tape) refl e in
+    let r = ready plan (length x) (length y) (length result) (length work) (length tape) (callAnswer plan x y result work tape) refl e in
     rw (eq-eqb _ 0 e)
     (joins (length x) (r .least) (r .most) x y tape (record { size = refl; words = wx }) (record { size = r .others; words = wy }) wt (r .enough))
-
-pub call-joins-one : (plan : List ℕ) (op : ℕ → ℕ) → JoinsOne plan op → CallJoinsOne plan op
-call-joins-one plan op joins x result work tape wx wt e =
-    let r = ready plan (length x) (length x) (length result) (length work) (length tape) (callAnswer plan x (length x) result work tape) refl e in
-    rw (eq-eqb _ 0 e) (joins (length x) (r .least) (r .most) x tape (record { size = refl; words = wx }) wt (r .enough))

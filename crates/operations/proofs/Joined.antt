@@ -17,19 +17,10 @@ use Rattle.masking.specs.Machine.{Words, exec}
 use Rattle.masking.specs.Unsplit.{xorOver, joined, unsplit}
 use Rattle.masking.proofs.joined.Plan.{joined-after}
 use Rattle.masking.proofs.joined.Sums.{sum-lt}
-use Rattle.binary64.specs.Product.{product}
-use Rattle.binary64.specs.Sum.{sum}
-use Rattle.binary64.specs.Floor.{floor}
 use Rattle.plans.specs.Computes.{Computes}
-use Rattle.plans.specs.ProductPlan.{productPlan}
-use Rattle.plans.specs.SumPlan.{sumPlan}
-use Rattle.plans.specs.FloorPlan.{floorPlan}
-use Rattle.plans.proofs.product.Computes.{product-plan}
-use Rattle.plans.proofs.sum.Computes.{sum-plan}
-use Rattle.plans.proofs.floor.Computes.{floor-plan}
 use Rattle.operations.specs.Shares.{placed, finished, resultShares}
-use Rattle.operations.specs.Splitting.{xorAll}
-use Rattle.operations.specs.Masked.{Operand, Joins, JoinsOne}
+use Rattle.splitting.specs.SplitJoin.{xorAll}
+use Rattle.operations.specs.Masked.{Operand, Joins}
 use Rattle.operations.proofs.Plans.{finished-is}
 use Rattle.operations.proofs.Placed.{placed-start, joins-0, joins-1}
 
@@ -70,14 +61,3 @@ module _ (plan : List ℕ) (op : ℕ → ℕ → ℕ) (C : Computes plan op) (n 
 
 pub plan-joins : (plan : List ℕ) (op : ℕ → ℕ → ℕ) → Computes plan op → Joins plan op
 plan-joins plan op C n least most x y tape X Y W enough = result-joins plan op C n least most x y tape X (Y .words) (le-of-eq (Y .size)) W enough
-
-pub product-joins : Joins productPlan product
-product-joins = plan-joins productPlan product product-plan
-
-pub sum-joins : Joins sumPlan sum
-sum-joins = plan-joins sumPlan sum sum-plan
-
--- the call of floor has one operand
-pub floor-joins-one : JoinsOne floorPlan floor
-floor-joins-one n least most x tape X W enough =
-    result-joins floorPlan (λ a b. floor a) floor-plan n least most x [] tape X (λ k. pow-pos 64) (omega arith) W enough

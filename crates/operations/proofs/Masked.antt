@@ -1,33 +1,29 @@
--- All that is proved of the operations on shares, in one place.
-use Rattle.binary64.specs.Product.{product}
-use Rattle.binary64.specs.Sum.{sum}
-use Rattle.binary64.specs.Floor.{floor}
-use Rattle.plans.specs.ProductPlan.{productPlan}
-use Rattle.plans.specs.SumPlan.{sumPlan}
-use Rattle.plans.specs.FloorPlan.{floorPlan}
-use Rattle.operations.specs.Masked.{Masked}
-use Rattle.operations.proofs.BuiltIns.{good-product, good-sum, good-floor}
+-- All that is proved of the operations on shares: one record over any plan that computes an operation, at each built-in plan.
+use mathlib.Core.List.{List}
+use Prim.Native.Nat.{ℕ}
+use Rattle.binary64.specs.Operations.{onWords}
+use Rattle.plans.specs.Computes.{Computes}
+use Rattle.plans.specs.BuiltIns.{planOf}
+use Rattle.plans.proofs.BuiltIns.{built-ins}
+use Rattle.operations.specs.Masked.{OnShares, Masked}
+use Rattle.operations.specs.Inner.{GoodPlan}
 use Rattle.operations.proofs.Plans.{runs-whole}
-use Rattle.operations.proofs.Joined as joined
-use Rattle.operations.proofs.CallJoined.{call-joins, call-joins-one}
-use Rattle.operations.proofs.Secret as secret
-use Rattle.operations.proofs.SplitJoin.{round-trip, calls-round-trip}
+use Rattle.operations.proofs.Joined.{plan-joins}
+use Rattle.operations.proofs.CallJoined.{call-joins}
+use Rattle.operations.proofs.Secret.{operation-secret}
+
+-- a plan with what it computes is not too long and has no bad word
+pub good : {plan : List ℕ} {op : ℕ → ℕ → ℕ} → Computes plan op → GoodPlan plan
+good C = record { short = C .short; good = C .none-bad }
+
+on-shares : (plan : List ℕ) (op : ℕ → ℕ → ℕ) → Computes plan op → OnShares plan op
+on-shares plan op C =
+    record {
+      run = runs-whole plan (good C);
+      joins = plan-joins plan op C;
+      call = call-joins plan op (plan-joins plan op C);
+      secret = operation-secret plan op C;
+    }
 
 pub masked : Masked
-masked =
-    record {
-      product-run = runs-whole productPlan good-product;
-      sum-run = runs-whole sumPlan good-sum;
-      floor-run = runs-whole floorPlan good-floor;
-      product-joins = joined.product-joins;
-      sum-joins = joined.sum-joins;
-      floor-joins = joined.floor-joins-one;
-      product-call = call-joins productPlan product joined.product-joins;
-      sum-call = call-joins sumPlan sum joined.sum-joins;
-      floor-call = call-joins-one floorPlan floor joined.floor-joins-one;
-      product-secret = secret.product-secret;
-      sum-secret = secret.sum-secret;
-      floor-secret = secret.floor-secret-one;
-      shares-join = round-trip;
-      split-join = calls-round-trip;
-    }
+masked o = on-shares (planOf o) (onWords o) (built-ins o .computes)

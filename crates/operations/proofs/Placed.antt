@@ -15,11 +15,11 @@ use Rattle.masking.specs.Translation.{upFrom, shares}
 use Rattle.masking.specs.Machine.{Words, Start}
 use Rattle.masking.specs.Unsplit.{xorOver, joined}
 use Rattle.masking.specs.Secrecy.{Agree}
-use Rattle.masking.proofs.joined.Cells.{set-words}
+use Rattle.plain.proofs.Laws.{set-words}
 use Rattle.masking.proofs.joined.Sums.{sum-same}
 use Rattle.operations.proofs.Filling.{placed-size}
 use Rattle.operations.specs.Shares.{placedIn, placed}
-use Rattle.operations.specs.Splitting.{xorAll}
+use Rattle.splitting.specs.SplitJoin.{xorAll}
 
 -- ---- exclusive-ors of n words
 shares-from : (x : List ℕ) (s c : ℕ) (f : ℕ → ℕ) → length x ≤ c → ((j : ℕ) → f (s + j) ≡ getD x j 0) → xorOver f (upFrom s c) ≡ xorAll x

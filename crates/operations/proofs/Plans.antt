@@ -9,20 +9,21 @@ use lib.Seq.{drop-cons, take-all}
 use Rattle.word.specs.declared.step.Step.{Step}
 use Rattle.word.specs.declared.step.Decoded.{Decoded}
 use Rattle.word.specs.declared.step.Decoded.the-variants.{Good, Bad}
-use Rattle.word.specs.declared.answer.Answer.{Answer}
-use Rattle.word.specs.Word.{planStep}
-use Rattle.word.specs.Answers.{firstBad, done, afterCall}
-use Rattle.word.proofs.Checking.{first-bad}
+use Rattle.checks.specs.declared.answer.Answer.{Answer}
+use Rattle.word.specs.Encoding.{planStep}
+use Rattle.checks.specs.Answers.{firstBad, done, afterCall}
+use Rattle.checks.proofs.Checking.{first-bad}
 use Rattle.masking.specs.Translation.{wordsFor, program}
 use Rattle.masking.specs.Foretold.{Accepted, foretoldTape}
 use Rattle.masking.specs.Machine.{stepsOf, exec, rands}
-use Rattle.masking.specs.Runs.{due}
+use Rattle.masking.specs.Runs.{due, standing}
 use Rattle.masking.proofs.emitted.Counts.{plan-counts}
 use Rattle.masking.specs.Demand3.{EachRun}
 use Rattle.masking.proofs.InARow.{each-run, steps-append}
 use Rattle.operations.specs.Shares.{placed, finished}
 use Rattle.operations.specs.Masked.{WholeRun, RunsWhole}
-use Rattle.operations.specs.Gadgets.{GoodPlan, GoodPlanWord, IsGood}
+use Rattle.operations.specs.Inner.{GoodPlan}
+use Rattle.blocks.specs.PlanWords.{GoodPlanWord, IsGood}
 use Rattle.operations.proofs.Filling.{placed-size}
 
 -- the share steps of a plan's words from i on
@@ -51,7 +52,7 @@ module _ (n : ℕ) (plan x y tape : List ℕ) (A : Accepted n plan) where
   used : rands (due P 0 (length P)) ≡ foretoldTape n plan
   used = ap rands all ∙ plan-counts n plan A .tape
 
-  begun : EachRun P tape (record { cells = placed x y; place = 0; tapePlace = 0 }) (length P)
+  begun : EachRun P tape (standing (placed x y) 0 0) (length P)
   unfolding placed
   begun =
       let C = plan-counts n plan A in

@@ -9,10 +9,10 @@ use native.Mathlib.Omega.{arith}
 use lib.Dec.{eqb}
 use lib.ListN.{length, getD, drop}
 use lib.Seq.{drop-cons}
-use Rattle.word.specs.Word.{kindOf}
+use Rattle.word.specs.Encoding.{kindOf}
 use Rattle.word.specs.Layout.{pairCount, tapeOf}
 use Rattle.masking.specs.Foretold.{foretoldTape}
-use Rattle.operations.specs.Gadgets.{wordPerPair, perPair}
+use Rattle.operations.specs.Inner.{wordPerPair, perPair}
 
 word-tape : (w n : ℕ) → tapeOf (kindOf w) n ≡ wordPerPair w * pairCount n
 unfolding tapeOf

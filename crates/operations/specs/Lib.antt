@@ -1,7 +1,4 @@
--- The operations on shares (Shares) as calls (Calls), split and join (Splitting), and what is proved of the operations (Masked).
--- For the contracts of inner functions: share steps done on the cells (Gadgets).
+-- The operations on shares as calls (Shares), and what is proved of them (Masked). Inner holds names that inner contracts cite.
 pub mod Shares
-pub mod Calls
-pub mod Splitting
 pub mod Masked
-pub mod Gadgets
+pub mod Inner

@@ -6,15 +6,14 @@ use mathlib.Core.List.{List, [], _∷_, map}
 use Prim.Native.Nat.{ℕ, suc}
 use lib.Dec.{ltb, eqb}
 use lib.ListN.{length, getD, set, replicate}
-use Rattle.word.specs.declared.answer.Answer.{Answer}
+use Rattle.checks.specs.declared.answer.Answer.{Answer}
 use Rattle.word.specs.Layout.{isShareCount, cell}
-use Rattle.word.specs.Answers.{done, refused, given, afterCall}
+use Rattle.checks.specs.Answers.{done, refused, given, afterCall}
 use Rattle.masking.specs.Translation.{shares, program}
 use Rattle.masking.specs.Foretold.{foretoldTape}
-use Rattle.masking.specs.Runs.{runAnswer, runCells}
+use Rattle.masking.specs.Runs.{standing, runAnswer, runCells}
 
--- the answer, by lengths: 1 "share count not 2..8", 4 "a slice of wrong length", 6 "tape too short"; an operation with one operand hands n
--- for `other`
+-- the answer, by lengths: 1 "share count not 2..8", 4 "a slice of wrong length", 6 "tape too short"
 unfoldable pub operationAnswer : List ℕ → ℕ → ℕ → ℕ → ℕ → ℕ → Answer
 operationAnswer plan n other result work tape =
     given (not (isShareCount n)) (refused 1)
@@ -33,21 +32,26 @@ placed x y = placedIn 1 0 y (placedIn 0 0 x (replicate 512 0))
 
 -- a share run over the whole translated plan: its answer, and the cells afterwards
 abbrev pub wholeRun : List ℕ → ℕ → List ℕ → List ℕ → List ℕ → Answer
-wholeRun plan n x y tape = runAnswer (program n plan) tape (record { cells = placed x y; place = 0; tapePlace = 0 }) (length (program n plan))
+wholeRun plan n x y tape = runAnswer (program n plan) tape (standing (placed x y) 0 0) (length (program n plan))
 
 unfoldable pub finished : List ℕ → ℕ → List ℕ → List ℕ → List ℕ → List ℕ
-finished plan n x y tape = runCells (program n plan) tape (record { cells = placed x y; place = 0; tapePlace = 0 }) (length (program n plan))
+finished plan n x y tape = runCells (program n plan) tape (standing (placed x y) 0 0) (length (program n plan))
 
 -- the result's shares: register 2
 unfoldable pub resultShares : List ℕ → ℕ → List ℕ → List ℕ → List ℕ → List ℕ
 resultShares plan n x y tape = map (λ i. getD (finished plan n x y tape) (cell i 2) 0) (shares n)
 
--- the answer of a call on lent slices, the result afterwards, and the work slice afterwards
-abbrev pub callAnswer : List ℕ → List ℕ → ℕ → List ℕ → List ℕ → List ℕ → Answer
-callAnswer plan x other result work tape = operationAnswer plan (length x) other (length result) (length work) (length tape)
+-- A call on lent slices, by its plan: the answer, the result afterwards, and the work slice afterwards. Each operation is an instance.
+module _ (plan x y result work tape : List ℕ) where
+  abbrev pub callAnswer : Answer
+  callAnswer = operationAnswer plan (length x) (length y) (length result) (length work) (length tape)
 
-abbrev pub resultAfter : List ℕ → List ℕ → List ℕ → ℕ → List ℕ → List ℕ → List ℕ → List ℕ
-resultAfter plan x y other result work tape = afterCall (callAnswer plan x other result work tape) (resultShares plan (length x) x y tape) result
+  abbrev pub resultAfter : List ℕ
+  resultAfter = afterCall callAnswer (resultShares plan (length x) x y tape) result
 
-abbrev pub workAfter : List ℕ → List ℕ → ℕ → List ℕ → List ℕ → List ℕ → List ℕ
-workAfter plan x other result work tape = afterCall (callAnswer plan x other result work tape) (replicate 512 0) work
+  abbrev pub workAfter : List ℕ
+  workAfter = afterCall callAnswer (replicate 512 0) work
+
+-- the second operand of an operation with one: zeros in register 1
+abbrev pub zerosFor : List ℕ → List ℕ
+zerosFor x = replicate (length x) 0

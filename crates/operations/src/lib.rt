@@ -1,4 +1,59 @@
-// Product, sum and floor on shares, and split and join. `specs/` has the definitions that the contracts cite.
-mod gadgets;
-pub mod operations;
-pub mod splitting;
+// Product, sum and floor on shares: one operation over the words of each plan. `specs/` has the definitions that the contracts cite.
+ghost use mathlib.Core.Path.{_≡_};
+ghost use Prim.Native.Nat.{min};
+ghost use Rattle.plans.specs.ProductPlan.{productPlan};
+ghost use Rattle.plans.specs.SumPlan.{sumPlan};
+ghost use Rattle.plans.specs.FloorPlan.{floorPlan};
+ghost use Rattle.operations.specs.Masked.{Masked};
+ghost use Rattle.operations.specs.Shares.{callAnswer, resultAfter, workAfter, zerosFor};
+use crate::operation::operation;
+use checks::answer::Answer;
+
+mod counts;
+mod operation;
+mod work;
+
+// The product of shared operands x and y: its shares in `result`. Turned down with 1 where the shares are not 2 to 8, 4 where a slice has the
+// wrong length, 6 where the tape is too short; all is then as it was. `work` has 512 words, zeros afterwards. What holds of it is `Masked`.
+pub fn product(x: &[u64], y: &[u64], result: &mut [u64], work: &mut [u64], tape: &[u64]) -> Answer
+    ensures answer { λ r. ⌜ r ≡ callAnswer productPlan (now (x .entry)) (now (y .entry)) (now (result .entry)) (now (work .entry)) (now (tape .entry)) ⌝ }
+    ensures result { λ _. ⌜ now (result .exit) ≡ resultAfter productPlan (now (x .entry)) (now (y .entry)) (now (result .entry)) (now (work .entry)) (now (tape .entry)) ⌝ }
+    ensures work { λ _. ⌜ now (work .exit) ≡ workAfter productPlan (now (x .entry)) (now (y .entry)) (now (result .entry)) (now (work .entry)) (now (tape .entry)) ⌝ }
+    ensures holds { λ _. ⌜ Masked ⌝ }
+{
+    let plan = plans::product_table::words();
+    operation(&plan, x, y, result, work, tape)
+}
+
+// The sum of shared operands x and y, likewise.
+pub fn sum(x: &[u64], y: &[u64], result: &mut [u64], work: &mut [u64], tape: &[u64]) -> Answer
+    ensures answer { λ r. ⌜ r ≡ callAnswer sumPlan (now (x .entry)) (now (y .entry)) (now (result .entry)) (now (work .entry)) (now (tape .entry)) ⌝ }
+    ensures result { λ _. ⌜ now (result .exit) ≡ resultAfter sumPlan (now (x .entry)) (now (y .entry)) (now (result .entry)) (now (work .entry)) (now (tape .entry)) ⌝ }
+    ensures work { λ _. ⌜ now (work .exit) ≡ workAfter sumPlan (now (x .entry)) (now (y .entry)) (now (result .entry)) (now (work .entry)) (now (tape .entry)) ⌝ }
+    ensures holds { λ _. ⌜ Masked ⌝ }
+{
+    let plan = plans::sum_table::words();
+    operation(&plan, x, y, result, work, tape)
+}
+
+// Zeros for the second operand of an operation with one: as many as the first has words, eight at most, which is all that is not turned down.
+const NONE: [u64; 8] = [0; 8];
+
+fn at_most_eight(n: usize) -> usize
+    ensures { λ r. ⌜ r ≡ min n 8 ⌝ }
+{
+    if n < 8 { n } else { 8 }
+}
+
+// The floor of a shared operand x, likewise.
+pub fn floor(x: &[u64], result: &mut [u64], work: &mut [u64], tape: &[u64]) -> Answer
+    ensures answer { λ r. ⌜ r ≡ callAnswer floorPlan (now (x .entry)) (zerosFor (now (x .entry))) (now (result .entry)) (now (work .entry)) (now (tape .entry)) ⌝ }
+    ensures result { λ _. ⌜ now (result .exit) ≡ resultAfter floorPlan (now (x .entry)) (zerosFor (now (x .entry))) (now (result .entry)) (now (work .entry)) (now (tape .entry)) ⌝ }
+    ensures work { λ _. ⌜ now (work .exit) ≡ workAfter floorPlan (now (x .entry)) (zerosFor (now (x .entry))) (now (result .entry)) (now (work .entry)) (now (tape .entry)) ⌝ }
+    ensures holds { λ _. ⌜ Masked ⌝ }
+{
+    let plan = plans::floor_table::words();
+    let none = NONE;
+    let n = at_most_eight(x.len());
+    operation(&plan, x, &none[..n], result, work, tape)
+}

@@ -1,21 +1,20 @@
--- The plain machine's laws: runs in a row, lengths, and that cells stay words. Rests on bits' Bound.
+-- The plain machine's laws: runs in a row, lengths, and that cells stay words. Rests on word's Becomes.
 use mathlib.Core.Path.{_≡_, refl, sym, ap, _∙_}
-use mathlib.Core.Bool.{Bool, true, false, not, _&&_}
+use mathlib.Core.Bool.{not}
 use mathlib.Core.List.{List, [], _∷_, _++_}
 use Prim.Native.Nat.{ℕ, zero, suc, _+_, _^_, _<_}
-use native.Mathlib.Nat.{lt-of-lt-of-le}
 use native.Mathlib.Numerals.{add-one}
 use native.Mathlib.Omega.{arith}
 use lib.ListN.{length, getD, set, drop, length-set}
 use lib.Seq.{drop-cons}
-use lib.Dec.{T, ltb, eqb, ltb→lt}
-use Rattle.bits.proofs.Bound.{xor-lt, and-lt, shr-lt, not-lt, shl-lt, spread-lt, add-lt}
+use lib.Dec.{T, eqb}
 use Rattle.word.specs.declared.step.Step.{Step}
-use Rattle.word.specs.declared.step.Step.the-variants.{Const, Xor, And, Not, Shl, Shr, Spread, Add, Rand}
 use Rattle.word.specs.declared.step.Decoded.{Decoded}
 use Rattle.word.specs.declared.step.Decoded.the-variants.{Good, Bad}
-use Rattle.word.specs.Word.{planStep, inPlan, within, kindNumber}
-use Rattle.word.proofs.Together.{both, taken-rule}
+use Rattle.word.specs.Encoding.{planStep, inPlan, within, kindNumber}
+use Rattle.word.proofs.Ranges.{both, within-number}
+use Rattle.word.proofs.Becomes.{becomes-lt}
+use Rattle.word.proofs.Together.{taken-rule}
 use Rattle.word.specs.Table.{dest, becomes}
 use Rattle.plain.specs.Machine.{stepped, after, run}
 use Rattle.plain.specs.Laws.{Laws}
@@ -37,25 +36,6 @@ run-size (w ∷ ws) cells = run-size ws (after (planStep w) cells) ∙ after-siz
 pub run-one : (plan cells : List ℕ) (i : ℕ) → i < length plan → run (drop i plan) cells ≡ run (drop (i + 1) plan) (after (planStep (getD plan i 0)) cells)
 run-one plan cells i h = ap (λ (l : List ℕ). run l cells) (drop-cons plan i 0 h) ∙ ap (λ (k : ℕ). run (drop k plan) (after (planStep (getD plan i 0)) cells)) (sym (add-one i))
 
--- what a step of a plan writes is a word
-const-lt : (d k : ℕ) → T (ltb d 32 && ltb k (2 ^ 18)) → k < 2 ^ 64
-const-lt d k h = by (ltb d 32) h
-  where
-    by : (p : Bool) → T (p && ltb k (2 ^ 18)) → k < 2 ^ 64
-    by true h = lt-of-lt-of-le (ltb→lt k (2 ^ 18) h) (omega arith)
-    by false h = absurd h
-
-pub becomes-lt : (s : Step) (at : ℕ → ℕ) (next : ℕ) → T (within 32 s) → ((c : ℕ) → at c < 2 ^ 64) → next < 2 ^ 64 → becomes s at next < 2 ^ 64
-becomes-lt (Const d k) at next i w n = const-lt d k i
-becomes-lt (Xor d a b) at next i w n = xor-lt 64 (at a) (at b) (w a) (w b)
-becomes-lt (And d a b) at next i w n = and-lt 64 (at a) (at b) (w a)
-becomes-lt (Not d a) at next i w n = not-lt (at a)
-becomes-lt (Shl d a b) at next i w n = shl-lt (at a) b
-becomes-lt (Shr d a b) at next i w n = shr-lt 64 (at a) b (w a)
-becomes-lt (Spread d a) at next i w n = spread-lt (at a)
-becomes-lt (Add d a b) at next i w n = add-lt (at a) (at b)
-becomes-lt (Rand d) at next i w n = n
-
 -- storing a word keeps all cells words
 pub set-words : (cells : List ℕ) (d v : ℕ) → ((r : ℕ) → getD cells r 0 < 2 ^ 64) → v < 2 ^ 64 → (r : ℕ) → getD (set cells d v) r 0 < 2 ^ 64
 set-words [] d v w h r = w r
@@ -71,7 +51,7 @@ after-words w cells h = by (planStep w) (taken-rule inPlan w)
     by : (d : Decoded) → ((s : Step) → d ≡ Good s → T (inPlan s)) → (r : ℕ) → getD (after d cells) r 0 < 2 ^ 64
     by (Good s) ok =
         set-words cells (dest s) (becomes s (λ c. getD cells c 0) 0) h
-        (becomes-lt s (λ c. getD cells c 0) 0 (both (not (eqb (kindNumber s) 9)) (within 32 s) (ok s refl) .1) h (omega arith))
+        (becomes-lt s (within-number 32 s (both (not (eqb (kindNumber s) 9)) (within 32 s) (ok s refl) .1)) (λ c. getD cells c 0) 0 h (omega arith))
     by Bad ok = h
 
 run-words : (plan cells : List ℕ) → ((r : ℕ) → getD cells r 0 < 2 ^ 64) → (r : ℕ) → getD (run plan cells) r 0 < 2 ^ 64

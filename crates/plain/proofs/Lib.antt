@@ -1,3 +1,3 @@
--- Laws of the plain machine for its callers' proofs.
+-- Laws of the plain machine for its callers' proofs (Laws), and worked examples (Examples).
 pub mod Laws
-mod Examples
+pub mod Examples

@@ -2,21 +2,16 @@
 use mathlib.Core.Bool.{not}
 use mathlib.Core.List.{List}
 use Prim.Native.Nat.{ℕ}
-use lib.Dec.{ltb, eqb}
+use lib.Dec.{eqb}
 use lib.ListN.{length}
-use Rattle.word.specs.declared.answer.Answer.{Answer}
-use Rattle.word.specs.Word.{planStep}
-use Rattle.word.specs.Layout.{planMax}
-use Rattle.word.specs.Answers.{firstBad, done, refused, badAt, given, afterCall}
+use Rattle.checks.specs.declared.answer.Answer.{Answer}
+use Rattle.checks.specs.Answers.{done, refused, given, planChecked, afterCall}
 use Rattle.plain.specs.Machine.{run}
 
 -- the answer to a plan and a number of cells; it names no counts
 unfoldable pub plainAnswer : List ℕ → ℕ → Answer
 plainAnswer plan cells =
-    given (ltb planMax (length plan)) (refused 2)
-    (given (ltb (firstBad planStep plan) (length plan)) (badAt (firstBad planStep plan))
-    (given (not (eqb cells 32)) (refused 4)
-    (done 0 0)))
+    planChecked plan (given (not (eqb cells 32)) (refused 4) (done 0 0))
 
 -- the cells afterwards
 abbrev pub plainCells : List ℕ → List ℕ → List ℕ

@@ -5,7 +5,7 @@ use Prim.Native.Nat.{ℕ, _^_, _<_}
 use lib.ListN.{length, getD, set}
 use Rattle.word.specs.declared.step.Step.{Step}
 use Rattle.word.specs.declared.step.Decoded.the-variants.{Good}
-use Rattle.word.specs.Word.{planStep}
+use Rattle.word.specs.Encoding.{planStep}
 use Rattle.word.specs.Table.{dest, becomes}
 use Rattle.plain.specs.Machine.{run}
 

@@ -5,7 +5,7 @@ use lib.ListN.{getD, set}
 use Rattle.word.specs.declared.step.Step.{Step}
 use Rattle.word.specs.declared.step.Decoded.{Decoded}
 use Rattle.word.specs.declared.step.Decoded.the-variants.{Good, Bad}
-use Rattle.word.specs.Word.{planStep}
+use Rattle.word.specs.Encoding.{planStep}
 use Rattle.word.specs.Table.{dest, becomes}
 
 -- one step: cell d becomes what the table says, the others stay

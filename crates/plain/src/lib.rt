@@ -1,17 +1,19 @@
 // The plain machine: runs a plan on 32 unsplit cells. `specs/` has the machine and the call's contract.
 ghost use mathlib.Core.Path.{_≡_};
 ghost use lib.ListN.{length};
-ghost use Rattle.word.specs.Word.{planStep};
+ghost use Rattle.word.specs.Encoding.{planStep};
 ghost use Rattle.plain.specs.Machine as machine;
 ghost use Rattle.plain.specs.Call.{plainAnswer, plainCells};
-use word::answer::Answer;
-use word::check::plan_first_bad;
+use crate::table::becomes;
+use crate::table::dest;
+use crate::table::write;
+use checks::answer::Answer;
+use checks::plan::check_plan;
 use word::step::Decoded;
 use word::step::Step;
 use word::step_word::StepWord;
-use word::table::becomes;
-use word::table::dest;
-use word::table::write;
+
+pub mod table;
 
 // One step: cell d becomes what the table says.
 fn stepped(s: Step, cells: &mut [u64])
@@ -44,12 +46,9 @@ fn words_done(plan: &[u32], cells: &mut [u64])
 fn plain_answer(plan: &[u32], cells: usize) -> Answer
     ensures { λ r. ⌜ r ≡ plainAnswer (now (plan .entry)) cells ⌝ }
 {
-    if StepWord::PLAN_MAX < plan.len() {
-        return Answer::refused(2);
-    }
-    let bad = plan_first_bad(plan);
-    if bad < plan.len() {
-        return Answer::bad_at(bad);
+    let checked = check_plan(plan);
+    if checked.number != 0 {
+        return checked;
     }
     if cells != StepWord::REGISTERS {
         return Answer::refused(4);

@@ -10,7 +10,7 @@ use native.Mathlib.Omega.{arith}
 use lib.ListN.{length, getD, take, drop, set}
 use lib.Seq.{paste, paste-zero, paste-suc, take-all}
 use borrow.Author.Tests.{lt-ltb, le-ltb}
-use Rattle.word.specs.Answers.{done, refused, given, afterCall}
+use Rattle.checks.specs.Answers.{done, refused, given, afterCall}
 use Rattle.plans.specs.Copy.{copyAnswer, copyOut}
 
 -- i words of the plan are copied over the start d

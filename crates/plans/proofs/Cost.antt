@@ -7,7 +7,7 @@ use Prim.Native.Nat.{ℕ, _+_, _-_, _*_, _/_, _≤_}
 use native.Mathlib.Nat.{zero-mul, add-mul, mul-le-mul, le-trans, le-of-eq}
 use native.Mathlib.Omega.{arith}
 use lib.Dec.{T, eqb, leb, leb→le}
-use Rattle.word.specs.Word.{row, named, put, kindOf}
+use Rattle.word.specs.Encoding.{row, named, put, kindOf}
 use Rattle.word.specs.Layout.{pairCount, tapeOf}
 use Rattle.masking.specs.Foretold.{foretoldTape}
 use Rattle.plans.specs.Cost.{Cost, Figures, readsOnly}

@@ -10,8 +10,9 @@ use lib.Dec.{T}
 use lib.ListN.{length, getD}
 use lib.Seq.{ext-getD}
 use Rattle.word.specs.declared.step.Step.{Step}
-use Rattle.word.specs.Word.{inPlan, wordOf}
-use Rattle.word.proofs.Together.{both, plan-exact}
+use Rattle.word.specs.Encoding.{inPlan, wordOf}
+use Rattle.word.proofs.Ranges.{both}
+use Rattle.word.proofs.Together.{plan-exact}
 use Rattle.plain.specs.Machine.{stepped, after, run}
 
 -- a plan's steps in order

@@ -9,10 +9,11 @@ use lib.ListN.{length, getD}
 use Rattle.word.specs.declared.step.Step.{Step}
 use Rattle.word.specs.declared.step.Decoded.{Decoded}
 use Rattle.word.specs.declared.step.Decoded.the-variants.{Good}
-use Rattle.word.specs.Word.{inPlan, planStep, wordOf}
-use Rattle.word.specs.Answers.{firstOf, firstBad}
-use Rattle.word.proofs.Together.{both, plan-exact}
-use Rattle.word.proofs.Checking.{first-bad}
+use Rattle.word.specs.Encoding.{inPlan, planStep, wordOf}
+use Rattle.checks.specs.Answers.{firstOf, firstBad}
+use Rattle.word.proofs.Ranges.{both}
+use Rattle.word.proofs.Together.{plan-exact}
+use Rattle.checks.proofs.Checking.{first-bad}
 use Rattle.plans.proofs.Registers.{allInPlan}
 
 pub none-bad : (ss : List Step) → T (allInPlan ss) → firstBad planStep (map wordOf ss) ≡ length (map wordOf ss)

@@ -1,28 +1,41 @@
--- What is proved of the three built-in plans, as one statement.
-use mathlib.Core.List.{[], _∷_}
+-- The built-in plans, one for each operation, and what is proved of each: one record over the operation.
+use mathlib.Core.List.{List, [], _∷_}
 use Prim.Native.Nat.{ℕ}
-use Rattle.binary64.specs.Product.{product}
-use Rattle.binary64.specs.Sum.{sum}
-use Rattle.binary64.specs.Floor.{floor}
+use Rattle.binary64.specs.Operations.{Operation, Product, Sum, Floor, onWords}
 use Rattle.plans.specs.Computes.{Computes}
 use Rattle.plans.specs.Cost.{Cost, Figures}
 use Rattle.plans.specs.ProductPlan.{productPlan}
 use Rattle.plans.specs.SumPlan.{sumPlan}
 use Rattle.plans.specs.FloorPlan.{floorPlan}
 
--- floor looks at register 0 alone
-abbrev pub floorOf : ℕ → ℕ → ℕ
-floorOf a b = floor a
+abbrev pub planOf : Operation → List ℕ
+planOf Product = productPlan
+planOf Sum = sumPlan
+planOf Floor = floorPlan
 
-pub record BuiltIns : Type 0 where
-  pub product-computes : Computes productPlan product
-  pub sum-computes : Computes sumPlan sum
-  pub floor-computes : Computes floorPlan floorOf
-  -- operands are all that is read before it is written; tape words at most 100, 90 and 30 times n(n−1)
-  pub product-cost : Cost productPlan (0 ∷ 1 ∷ []) 100
-  pub sum-cost : Cost sumPlan (0 ∷ 1 ∷ []) 90
-  pub floor-cost : Cost floorPlan (0 ∷ []) 30
-  -- words, and ANDs and ADDs among them
-  pub product-figures : Figures productPlan 810 65 2
-  pub sum-figures : Figures sumPlan 300 33 4
-  pub floor-figures : Figures floorPlan 83 11 1
+-- the registers that hold operands
+abbrev pub operandsOf : Operation → List ℕ
+operandsOf Product = 0 ∷ 1 ∷ []
+operandsOf Sum = 0 ∷ 1 ∷ []
+operandsOf Floor = 0 ∷ []
+
+-- a ceiling on its tape words, times n(n−1)
+abbrev pub ceilingOf : Operation → ℕ
+ceilingOf Product = 100
+ceilingOf Sum = 90
+ceilingOf Floor = 30
+
+-- its words, and ANDs and ADDs among them
+abbrev pub FiguresOf : Operation → Type 0
+FiguresOf Product = Figures productPlan 810 65 2
+FiguresOf Sum = Figures sumPlan 300 33 4
+FiguresOf Floor = Figures floorPlan 83 11 1
+
+pub record BuiltIn (o : Operation) : Type 0 where
+  pub computes : Computes (planOf o) (onWords o)
+  -- operands are all that is read before it is written
+  pub cost : Cost (planOf o) (operandsOf o) (ceilingOf o)
+  pub figures : FiguresOf o
+
+abbrev pub BuiltIns : Type 0
+BuiltIns = (o : Operation) → BuiltIn o

@@ -5,9 +5,9 @@ use Prim.Native.Nat.{ℕ, _^_, _≤_, _<_}
 use lib.ListN.{length, getD}
 use Rattle.word.specs.declared.step.Step.{Step}
 use Rattle.word.specs.declared.step.Decoded.the-variants.{Good}
-use Rattle.word.specs.Word.{planStep}
+use Rattle.word.specs.Encoding.{planStep}
 use Rattle.word.specs.Layout.{planMax}
-use Rattle.word.specs.Answers.{firstBad}
+use Rattle.checks.specs.Answers.{firstBad}
 use Rattle.plain.specs.Machine.{run}
 
 -- "with operands in registers 0 and 1 and the result in 2", whatever the other registers hold at the start

@@ -4,8 +4,8 @@ use mathlib.Core.List.{List, _++_}
 use Prim.Native.Nat.{ℕ}
 use lib.Dec.{ltb}
 use lib.ListN.{length, drop}
-use Rattle.word.specs.declared.answer.Answer.{Answer}
-use Rattle.word.specs.Answers.{done, refused, given, afterCall}
+use Rattle.checks.specs.declared.answer.Answer.{Answer}
+use Rattle.checks.specs.Answers.{done, refused, given, afterCall}
 
 -- the answer
 abbrev pub copyAnswer : List ℕ → List ℕ → Answer

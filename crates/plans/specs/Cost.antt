@@ -7,33 +7,19 @@ use mathlib.Core.List.{List, [], _∷_}
 use Prim.Native.Nat.{ℕ, _+_, _-_, _*_, _≤_}
 use lib.Dec.{T, eqb}
 use lib.ListN.{length}
-use Rattle.word.specs.declared.step.Step.{Step}
-use Rattle.word.specs.declared.step.Step.the-variants.{Const, Xor, And, Not, Shl, Shr, Spread, Add, Rand}
 use Rattle.word.specs.declared.step.Decoded.{Decoded}
 use Rattle.word.specs.declared.step.Decoded.the-variants.{Good, Bad}
-use Rattle.word.specs.Word.{planStep, kindOf}
-use Rattle.word.specs.Table.{dest}
+use Rattle.word.specs.Encoding.{planStep, kindOf}
+use Rattle.word.specs.Table.{dest, reads, allIn}
 use Rattle.masking.specs.Foretold.{foretoldTape}
 
 abbrev pub memberOf : List ℕ → ℕ → Bool
 memberOf [] r = false
 memberOf (q ∷ qs) r = eqb q r || memberOf qs r
 
--- all registers that a step reads are among those known
-abbrev pub readsKnown : List ℕ → Step → Bool
-readsKnown known (Const d k) = true
-readsKnown known (Xor d a b) = memberOf known a && memberOf known b
-readsKnown known (And d a b) = memberOf known a && memberOf known b
-readsKnown known (Not d a) = memberOf known a
-readsKnown known (Shl d a b) = memberOf known a
-readsKnown known (Shr d a b) = memberOf known a
-readsKnown known (Spread d a) = memberOf known a
-readsKnown known (Add d a b) = memberOf known a && memberOf known b
-readsKnown known (Rand d) = true
-
 -- a word read: a step reads only known registers, and the one that it writes is known to the rest
 abbrev pub reading : Decoded → List ℕ → (List ℕ → Bool) → Bool
-reading (Good s) known rest = readsKnown known s && rest (dest s ∷ known)
+reading (Good s) known rest = allIn (memberOf known) (reads s) && rest (dest s ∷ known)
 reading Bad known rest = false
 
 -- a test that walks a plan's words in order: each step reads only registers that are known at the start or written by an earlier step. A bad

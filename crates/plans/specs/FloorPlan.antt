@@ -4,7 +4,7 @@ use mathlib.Core.List.{List, [], _∷_, _++_, map}
 use Prim.Native.Nat.{ℕ}
 use Rattle.word.specs.declared.step.Step.{Step}
 use Rattle.word.specs.declared.step.Step.the-variants.{Xor, And, Not, Shl, Shr, Spread, Add}
-use Rattle.word.specs.Word.{wordOf}
+use Rattle.word.specs.Encoding.{wordOf}
 use Rattle.plans.specs.Segments.{zeroTests}
 use Rattle.plans.specs.FractionMask.{exponentLanes, fractionMask}
 

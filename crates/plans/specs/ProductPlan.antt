@@ -7,7 +7,7 @@ use mathlib.Core.List.{List, [], _∷_, _++_, map}
 use Prim.Native.Nat.{ℕ, zero, suc}
 use Rattle.word.specs.declared.step.Step.{Step}
 use Rattle.word.specs.declared.step.Step.the-variants.{Const, Xor, And, Not, Shl, Shr, Spread, Add}
-use Rattle.word.specs.Word.{wordOf}
+use Rattle.word.specs.Encoding.{wordOf}
 use Rattle.plans.specs.Segments.{zeroTests}
 
 -- m_x = 2^52 + F_x; n_x = 2^52 - 1 - F_x; S + C = n_x + n_y + 1; low = 0

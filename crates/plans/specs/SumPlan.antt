@@ -8,7 +8,7 @@ use mathlib.Core.List.{List, [], _∷_, _++_, map}
 use Prim.Native.Nat.{ℕ, _-_, _*_, _^_}
 use Rattle.word.specs.declared.step.Step.{Step}
 use Rattle.word.specs.declared.step.Step.the-variants.{Const, Xor, And, Not, Shl, Shr, Spread, Add}
-use Rattle.word.specs.Word.{wordOf}
+use Rattle.word.specs.Encoding.{wordOf}
 use Rattle.plans.specs.Segments.{spreadBit, stageRight, zeroTests}
 
 -- |a| ≥ |b| by their bits 62..0; D = |a| - |b|, or one less where y is the larger

@@ -1,5 +1,5 @@
 // Copying a plan out.
-use word::answer::Answer;
+use checks::answer::Answer;
 ghost use mathlib.Core.Path.{_≡_};
 ghost use Rattle.plans.specs.Copy.{copyAnswer, copyOut};
 

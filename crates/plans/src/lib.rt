@@ -1,11 +1,11 @@
 // The built-in plans: constant tables of their words, and the calls that copy them out. `specs/` has the plans as steps, and `proofs/` what
 // they compute.
 mod copy;
-mod floor_table;
-mod product_table;
-mod sum_table;
+pub mod floor_table;
+pub mod product_table;
+pub mod sum_table;
 
-use word::answer::Answer;
+use checks::answer::Answer;
 ghost use mathlib.Core.Path.{_≡_};
 ghost use Rattle.plans.specs.BuiltIns.{BuiltIns};
 ghost use Rattle.plans.specs.Copy.{copyAnswer, copyOut};
@@ -40,25 +40,4 @@ pub fn copy_floor(out: &mut [u32]) -> Answer
 {
     let plan = floor_table::words();
     copy::copy(&plan, out)
-}
-
-// The product's plan as a value, for callers that run it at once.
-pub fn product_words() -> [u32; 810]
-    ensures { λ r. ⌜ r ≡ productPlan ⌝ }
-{
-    product_table::words()
-}
-
-// The sum's plan as a value, for callers that run it at once.
-pub fn sum_words() -> [u32; 300]
-    ensures { λ r. ⌜ r ≡ sumPlan ⌝ }
-{
-    sum_table::words()
-}
-
-// Floor's plan as a value, for callers that run it at once.
-pub fn floor_words() -> [u32; 83]
-    ensures { λ r. ⌜ r ≡ floorPlan ⌝ }
-{
-    floor_table::words()
 }

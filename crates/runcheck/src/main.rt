@@ -76,8 +76,8 @@ fn compare(n: usize, program: &[u32], tape: &[u64], words: usize) {
     drawn::fill(n as u64, &mut parts);
     let mut plain = [0u64; 32];
     join_all(&whole, n, &mut plain);
-    let answer = shares::run::share_run(program, 0, tape, 0, words, &mut whole);
-    shares::in_a_row::runs_in_a_row(program, 0, tape, 0, &BUDGETS, &mut parts);
+    let answer = running::run::share_run(program, 0, tape, 0, words, &mut whole);
+    running::in_a_row::runs_in_a_row(program, 0, tape, 0, &BUDGETS, &mut parts);
     plain::plain_run(&PLAN, &mut plain);
     let mut after = [0u64; 32];
     join_all(&whole, n, &mut after);
@@ -91,7 +91,7 @@ fn compare(n: usize, program: &[u32], tape: &[u64], words: usize) {
 }
 
 fn translated(n: usize, tape: &[u64], out: &mut [u32]) {
-    let answer = shares::translate::translate(n, &PLAN, out);
+    let answer = translation::translate::translate(n, &PLAN, out);
     let words = answer.words;
     if words <= out.len() {
         compare(n, &out[..words], tape, words);

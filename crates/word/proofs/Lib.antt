@@ -1,8 +1,7 @@
--- Lemmas of no one function: the search for the first bad word (Checking), functions that take a plan reader apart (Reading), bounds on
--- counts (Small), turn-downs not given (Passed), putting together and taking apart (Together), and good words by their kinds and fields (Quick).
-pub mod Checking
-pub mod Reading
+-- Lemmas of no one function: bounds on counts (Small), what a step's range says of its cells (Ranges), what it makes of its
+-- cell (Becomes), putting together and taking apart (Together), and good words by their kinds and fields (Quick).
 pub mod Small
-pub mod Passed
+pub mod Ranges
+pub mod Becomes
 pub mod Together
 pub mod Quick

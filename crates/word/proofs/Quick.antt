@@ -10,7 +10,8 @@ use Rattle.word.specs.declared.step.Step.{Step}
 use Rattle.word.specs.declared.step.Step.the-variants.{Const, Xor, And, Not, Shl, Shr, Spread, Add, Rand}
 use Rattle.word.specs.declared.step.Decoded.{Decoded}
 use Rattle.word.specs.declared.step.Decoded.the-variants.{Good, Bad}
-use Rattle.word.specs.Word.{kindOf, bit27, fieldD, fieldA, fieldB, either, row, named, inProgram, held, programStep, isGood}
+use Rattle.word.specs.Encoding.{kindOf, bit27, fieldD, fieldA, fieldB, either, row, named, inProgram, held, programStep, isGood}
+use Rattle.word.proofs.Ranges.{and-true}
 
 -- a step is held where its rule says so
 held-is : (s : Step) → isGood (held inProgram (Good s)) ≡ inProgram s
@@ -30,62 +31,55 @@ module _ (w : ℕ) (z : bit27 w ≡ 0) where
   unfolding named
   by-row k e = rw (z, ← e)
 
+  -- the word is good where its field tests out, and its step is in range
+  good-by : (k : ℕ) (s : Step) (q x : Bool) → kindOf w ≡ k → row k (fieldD w) (fieldA w) (fieldB w) ≡ either q (Good s) Bad → inProgram s ≡ x
+      → (q && x) ≡ isGood (programStep w)
+  good-by k s q x e r rule = sym (by-row k e ∙ ap (λ (d : Decoded). isGood (held inProgram d)) r ∙ by q)
+    where
+      by : (p : Bool) → isGood (held inProgram (either p (Good s) Bad)) ≡ (p && x)
+      by true = held-is s ∙ rule
+      by false = refl
+
   pub good-const : kindOf w ≡ 1 → true ≡ isGood (programStep w)
   unfolding row
   good-const e =
-      sym (by-row 1 e ∙ held-is (Const (fieldD w) (512 * fieldA w + fieldB w)) ∙ rw (field-cell (w / 2 ^ 18)) (lt-ltb (512 * fieldA w + fieldB w) (2 ^ 18) (omega arith)))
-
-  -- three cells
-  cells : (k : ℕ) (s : Step) → kindOf w ≡ k → row k (fieldD w) (fieldA w) (fieldB w) ≡ Good s
-      → inProgram s ≡ (ltb (fieldD w) 512 && (ltb (fieldA w) 512 && ltb (fieldB w) 512)) → true ≡ isGood (programStep w)
-  cells k s e r rule =
-      sym (by-row k e ∙ ap (λ (d : Decoded). isGood (held inProgram d)) r ∙ held-is s ∙ rule ∙ rw (field-cell (w / 2 ^ 18), field-cell (w / 2 ^ 9), field-cell w))
+      good-by 1 (Const (fieldD w) (512 * fieldA w + fieldB w)) true true e refl
+      (rw (field-cell (w / 2 ^ 18)) (lt-ltb (512 * fieldA w + fieldB w) (2 ^ 18) (omega arith)))
 
   pub good-xor : kindOf w ≡ 2 → true ≡ isGood (programStep w)
   unfolding row
-  good-xor e = cells 2 (Xor (fieldD w) (fieldA w) (fieldB w)) e refl refl
+  good-xor e = good-by 2 (Xor (fieldD w) (fieldA w) (fieldB w)) true true e refl (rw (field-cell (w / 2 ^ 18), field-cell (w / 2 ^ 9), field-cell w))
 
   pub good-and : kindOf w ≡ 3 → true ≡ isGood (programStep w)
   unfolding row
-  good-and e = cells 3 (And (fieldD w) (fieldA w) (fieldB w)) e refl refl
-
-  -- two cells and a field that must be 0
-  zero-field : (k : ℕ) (s : Step) → kindOf w ≡ k → row k (fieldD w) (fieldA w) (fieldB w) ≡ either (eqb (fieldB w) 0) (Good s) Bad
-      → inProgram s ≡ (ltb (fieldD w) 512 && ltb (fieldA w) 512) → eqb (fieldB w) 0 ≡ isGood (programStep w)
-  zero-field k s e r rule = sym (by-row k e ∙ ap (λ (d : Decoded). isGood (held inProgram d)) r ∙ by (eqb (fieldB w) 0))
-    where
-      by : (p : Bool) → isGood (held inProgram (either p (Good s) Bad)) ≡ p
-      by true = held-is s ∙ rule ∙ rw (field-cell (w / 2 ^ 18), field-cell (w / 2 ^ 9))
-      by false = refl
+  good-and e = good-by 3 (And (fieldD w) (fieldA w) (fieldB w)) true true e refl (rw (field-cell (w / 2 ^ 18), field-cell (w / 2 ^ 9), field-cell w))
 
   pub good-not : kindOf w ≡ 4 → eqb (fieldB w) 0 ≡ isGood (programStep w)
   unfolding row
-  good-not e = zero-field 4 (Not (fieldD w) (fieldA w)) e refl refl
+  good-not e =
+      sym (and-true (eqb (fieldB w) 0))
+      ∙ good-by 4 (Not (fieldD w) (fieldA w)) (eqb (fieldB w) 0) true e refl (rw (field-cell (w / 2 ^ 18), field-cell (w / 2 ^ 9)))
 
   pub good-spread : kindOf w ≡ 7 → eqb (fieldB w) 0 ≡ isGood (programStep w)
   unfolding row
-  good-spread e = zero-field 7 (Spread (fieldD w) (fieldA w)) e refl refl
-
-  -- two cells and a shift number
-  shift : (k : ℕ) (s : Step) → kindOf w ≡ k → row k (fieldD w) (fieldA w) (fieldB w) ≡ Good s
-      → inProgram s ≡ (ltb (fieldD w) 512 && (ltb (fieldA w) 512 && ltb (fieldB w) 64)) → ltb (fieldB w) 64 ≡ isGood (programStep w)
-  shift k s e r rule =
-      sym (by-row k e ∙ ap (λ (d : Decoded). isGood (held inProgram d)) r ∙ held-is s ∙ rule ∙ rw (field-cell (w / 2 ^ 18), field-cell (w / 2 ^ 9)))
+  good-spread e =
+      sym (and-true (eqb (fieldB w) 0))
+      ∙ good-by 7 (Spread (fieldD w) (fieldA w)) (eqb (fieldB w) 0) true e refl (rw (field-cell (w / 2 ^ 18), field-cell (w / 2 ^ 9)))
 
   pub good-shl : kindOf w ≡ 5 → ltb (fieldB w) 64 ≡ isGood (programStep w)
   unfolding row
-  good-shl e = shift 5 (Shl (fieldD w) (fieldA w) (fieldB w)) e refl refl
+  good-shl e = good-by 5 (Shl (fieldD w) (fieldA w) (fieldB w)) true (ltb (fieldB w) 64) e refl (rw (field-cell (w / 2 ^ 18), field-cell (w / 2 ^ 9)))
 
   pub good-shr : kindOf w ≡ 6 → ltb (fieldB w) 64 ≡ isGood (programStep w)
   unfolding row
-  good-shr e = shift 6 (Shr (fieldD w) (fieldA w) (fieldB w)) e refl refl
+  good-shr e = good-by 6 (Shr (fieldD w) (fieldA w) (fieldB w)) true (ltb (fieldB w) 64) e refl (rw (field-cell (w / 2 ^ 18), field-cell (w / 2 ^ 9)))
 
   pub good-rand : kindOf w ≡ 9 → eqb (w % 262144) 0 ≡ isGood (programStep w)
   unfolding row
   good-rand e = both-zero (fieldA w) (fieldB w) (omega arith) ∙ sym (by-row 9 e ∙ by (eqb (fieldA w) 0) (eqb (fieldB w) 0))
     where
       by : (p q : Bool) → isGood (held inProgram (either p (either q (Good (Rand (fieldD w))) Bad) Bad)) ≡ (p && q)
-      by true true = held-is (Rand (fieldD w)) ∙ field-cell (w / 2 ^ 18)
+      by true true = held-is (Rand (fieldD w)) ∙ rw (field-cell (w / 2 ^ 18))
       by true false = refl
       by false q = refl
 

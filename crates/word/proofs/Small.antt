@@ -6,7 +6,7 @@ use mathlib.Core.Bool.{Bool, true, false, cond, _&&_}
 use native.Mathlib.Omega.{arith}
 use lib.Dec.{eqb, leb}
 use borrow.Author.Tests.{leb-true}
-use Rattle.word.specs.Layout.{isShareCount, lengthOf, tapeOf}
+use Rattle.word.specs.Layout.{isShareCount, lengthOf, tapeOf, wordMax}
 
 pub square-lt : (n : ℕ) → n < 256 → n * n < 65536
 square-lt n h =
@@ -35,11 +35,11 @@ share-range n e =
 
 module _ (n : ℕ) (most : n ≤ 8) where
   -- no plan word gives more than ADD's share words and tape words for eight shares
-  pub length-le : (k : ℕ) → lengthOf k n ≤ 3816
+  pub length-le : (k : ℕ) → lengthOf k n ≤ wordMax
   unfolding lengthOf
   length-le k = by (eqb k 3) (eqb k 8) (mul-le-mul-left n most)
     where
-      by : (p q : Bool) → n * n ≤ n * 8 → cond p (5 * (n * n) - 2 * n) (cond q (60 * (n * n) - 3 * n) n) ≤ 3816
+      by : (p q : Bool) → n * n ≤ n * 8 → cond p (5 * (n * n) - 2 * n) (cond q (60 * (n * n) - 3 * n) n) ≤ wordMax
       by true q h = omega arith
       by false true h = omega arith
       by false false h = omega arith

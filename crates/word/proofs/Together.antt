@@ -1,19 +1,20 @@
 -- Putting together and taking apart, for any rule that keeps cells below 512: a word that is not bad is what its parts put together
 -- again, parts in range put together and taken apart are themselves, and no word stands in between.
 use mathlib.Core.Path.{_≡_, refl, sym, ap, ap₂, _∙_}
-use mathlib.Core.Bool.{Bool, true, false, not, _&&_}
+use mathlib.Core.Bool.{Bool, true, false, not}
 use mathlib.Core.Logic.{_⊎_, inl, inr}
 use Prim.Native.Nat.{ℕ, _+_, _*_, _/_, _%_, _^_, _<_}
 use native.Mathlib.Nat.{mod-mod, mod-lt, mod-eq-of-lt, lt-of-lt-of-le, div-lt-iff-lt-mul, div-add-mod, div-add-mod', div-div-eq-div-mul}
 use native.Mathlib.Omega.{arith}
-use lib.Dec.{T, ltb, eqb, ltb→lt, lt→ltb}
+use lib.Dec.{T, ltb, eqb, ltb→lt}
 use lib.Pow.{pow-pos}
 use borrow.Author.Tests.{eqb-true}
 use Rattle.word.specs.declared.step.Step.{Step}
 use Rattle.word.specs.declared.step.Step.the-variants.{Const, Xor, And, Not, Shl, Shr, Spread, Add, Rand}
 use Rattle.word.specs.declared.step.Decoded.{Decoded}
 use Rattle.word.specs.declared.step.Decoded.the-variants.{Good, Bad}
-use Rattle.word.specs.Word.{kindOf, bit27, fieldD, fieldA, fieldB, either, row, named, kindNumber, within, inPlan, inProgram, held, taken, put, wordOf}
+use Rattle.word.specs.Encoding.{kindOf, bit27, fieldD, fieldA, fieldB, either, row, named, kindNumber, within, inPlan, inProgram, held, taken, put, wordOf}
+use Rattle.word.proofs.Ranges.{both, within-cells, within-number, within-more}
 use Rattle.word.specs.Parts.{OfParts, OfNone, Exact, WordsExact}
 
 -- a field keeps nine bits
@@ -73,46 +74,36 @@ fields-put w h z =
 
 -- ---- parts in range put together and taken apart are themselves
 
-pub both : (p q : Bool) → T (p && q) → T p × T q
-both true q h = (tt, h)
-both false q h = absurd h
+-- a kind whose row makes a step f of three parts, and of two
+three-back : (k : ℕ) (f : ℕ → ℕ → ℕ → Decoded) → ((d a b : ℕ) → row (k % 16) d a b ≡ f d a b) → (d a b : ℕ) → d < 512 → a < 512 → b < 512
+    → named (put k d a b) ≡ f d a b
+three-back k f r d a b ld la lb = put-named k d a b ∙ rw (mod-eq-of-lt ld, mod-eq-of-lt la, mod-eq-of-lt lb) (r d a b)
 
-cell-mod : (x : ℕ) → T (ltb x 512) → x % 512 ≡ x
-cell-mod x h = mod-eq-of-lt (ltb→lt x 512 h)
+two-back : (k : ℕ) (f : ℕ → ℕ → Decoded) → ((d a : ℕ) → row (k % 16) d a 0 ≡ f d a) → (d a : ℕ) → d < 512 → a < 512 → named (put k d a 0) ≡ f d a
+two-back k f r d a ld la = put-named k d a 0 ∙ rw (mod-eq-of-lt ld, mod-eq-of-lt la) (r d a)
 
-shift-mod : (x : ℕ) → T (ltb x 64) → x % 512 ≡ x
-shift-mod x h = mod-eq-of-lt (lt-of-lt-of-le (ltb→lt x 64 h) (omega arith))
-
--- a kind whose row makes a step f of three parts, the last of which is a cell or a shift
-three-back : (k : ℕ) (f : ℕ → ℕ → ℕ → Decoded) → ((d a b : ℕ) → row (k % 16) d a b ≡ f d a b) → (d a b : ℕ) (p : Bool)
-    → T (ltb d 512 && (ltb a 512 && p)) → (T p → b % 512 ≡ b) → named (put k d a b) ≡ f d a b
-three-back k f r d a b p h last =
-    let h₁ = both (ltb d 512) (ltb a 512 && p) h in
-    let h₂ = both (ltb a 512) p (h₁ .1) in
-    put-named k d a b ∙ rw (cell-mod d (h₁ .0), cell-mod a (h₂ .0), last (h₂ .1)) (r d a b)
-
-two-back : (k : ℕ) (f : ℕ → ℕ → Decoded) → ((d a : ℕ) → row (k % 16) d a 0 ≡ f d a) → (d a : ℕ)
-    → T (ltb d 512 && ltb a 512) → named (put k d a 0) ≡ f d a
-two-back k f r d a h =
-    let h₁ = both (ltb d 512) (ltb a 512) h in
-    put-named k d a 0 ∙ rw (cell-mod d (h₁ .0), cell-mod a (h₁ .1)) (r d a)
+shift-small : (b : ℕ) → T (ltb b 64) → b < 512
+shift-small b h = lt-of-lt-of-le (ltb→lt b 64 h) (omega arith)
 
 back-named : (s : Step) → T (within 512 s) → named (wordOf s) ≡ Good s
 unfolding row
 back-named (Const d k) h =
-    let h₁ = both (ltb d 512) (ltb k (2 ^ 18)) h in
-    let l : k < 2 ^ 18 = ltb→lt k (2 ^ 18) (h₁ .1) in
+    let l : k < 2 ^ 18 = ltb→lt k (2 ^ 18) (within-number 512 (Const d k) h) in
     put-named 1 d (k / 512) k
-    ∙ ap₂ (λ (x y : ℕ). Good (Const x y)) (cell-mod d (h₁ .0))
+    ∙ ap₂ (λ (x y : ℕ). Good (Const x y)) (mod-eq-of-lt (within-cells 512 (Const d k) h .0))
     (ap (λ (x : ℕ). 512 * x + k % 512) (mod-eq-of-lt (div-lt-iff-lt-mul (pow-pos 9) .1 l)) ∙ div-add-mod k 512)
-back-named (Xor d a b) h = three-back 2 (λ d a b. Good (Xor d a b)) (λ d a b. refl) d a b _ h (cell-mod b)
-back-named (And d a b) h = three-back 3 (λ d a b. Good (And d a b)) (λ d a b. refl) d a b _ h (cell-mod b)
-back-named (Not d a) h = two-back 4 (λ d a. Good (Not d a)) (λ d a. refl) d a h
-back-named (Shl d a b) h = three-back 5 (λ d a b. Good (Shl d a b)) (λ d a b. refl) d a b _ h (shift-mod b)
-back-named (Shr d a b) h = three-back 6 (λ d a b. Good (Shr d a b)) (λ d a b. refl) d a b _ h (shift-mod b)
-back-named (Spread d a) h = two-back 7 (λ d a. Good (Spread d a)) (λ d a. refl) d a h
-back-named (Add d a b) h = three-back 8 (λ d a b. Good (Add d a b)) (λ d a b. refl) d a b _ h (cell-mod b)
-back-named (Rand d) h = put-named 9 d 0 0 ∙ ap (λ (x : ℕ). Good (Rand x)) (cell-mod d h)
+back-named (Xor d a b) h = let e = within-cells 512 (Xor d a b) h in three-back 2 (λ d a b. Good (Xor d a b)) (λ d a b. refl) d a b (e .0) (e .1 .0) (e .1 .1 .0)
+back-named (And d a b) h = let e = within-cells 512 (And d a b) h in three-back 3 (λ d a b. Good (And d a b)) (λ d a b. refl) d a b (e .0) (e .1 .0) (e .1 .1 .0)
+back-named (Not d a) h = let e = within-cells 512 (Not d a) h in two-back 4 (λ d a. Good (Not d a)) (λ d a. refl) d a (e .0) (e .1 .0)
+back-named (Shl d a b) h =
+    let e = within-cells 512 (Shl d a b) h in
+    three-back 5 (λ d a b. Good (Shl d a b)) (λ d a b. refl) d a b (e .0) (e .1 .0) (shift-small b (within-number 512 (Shl d a b) h))
+back-named (Shr d a b) h =
+    let e = within-cells 512 (Shr d a b) h in
+    three-back 6 (λ d a b. Good (Shr d a b)) (λ d a b. refl) d a b (e .0) (e .1 .0) (shift-small b (within-number 512 (Shr d a b) h))
+back-named (Spread d a) h = let e = within-cells 512 (Spread d a) h in two-back 7 (λ d a. Good (Spread d a)) (λ d a. refl) d a (e .0) (e .1 .0)
+back-named (Add d a b) h = let e = within-cells 512 (Add d a b) h in three-back 8 (λ d a b. Good (Add d a b)) (λ d a b. refl) d a b (e .0) (e .1 .0) (e .1 .1 .0)
+back-named (Rand d) h = put-named 9 d 0 0 ∙ ap (λ (x : ℕ). Good (Rand x)) (mod-eq-of-lt (within-cells 512 (Rand d) h .0))
 
 word-lt : (s : Step) → wordOf s < 2 ^ 32
 word-lt (Const d k) = put-lt 1 d (k / 512) k
@@ -208,34 +199,9 @@ module _ (rule : Step → Bool) (cells : (s : Step) → T (rule s) → T (within
   pub exact : Exact rule
   exact = record { back = λ s h. (word-lt s, back s h); every = every }
 
--- registers are cells
-below-512 : (x : ℕ) → T (ltb x 32) → T (ltb x 512)
-below-512 x h = lt→ltb x 512 (lt-of-lt-of-le (ltb→lt x 32 h) (omega arith))
-
-cell-and : (x : ℕ) (q q′ : Bool) → (T q → T q′) → T (ltb x 32 && q) → T (ltb x 512 && q′)
-cell-and x q q′ f h = let h₁ = both (ltb x 32) q h in join (ltb x 512) (below-512 x (h₁ .0)) (f (h₁ .1))
-  where
-    join : (p : Bool) → T p → T q′ → T (p && q′)
-    join true a b = b
-    join false a b = absurd a
-
-cells-and : (x y : ℕ) (q q′ : Bool) → (T q → T q′) → T (ltb x 32 && (ltb y 32 && q)) → T (ltb x 512 && (ltb y 512 && q′))
-cells-and x y q q′ f = cell-and x (ltb y 32 && q) (ltb y 512 && q′) (cell-and y q q′ f)
-
-registers : (s : Step) → T (within 32 s) → T (within 512 s)
-registers (Const d k) = cell-and d (ltb k (2 ^ 18)) (ltb k (2 ^ 18)) (λ h. h)
-registers (Xor d a b) = cells-and d a (ltb b 32) (ltb b 512) (below-512 b)
-registers (And d a b) = cells-and d a (ltb b 32) (ltb b 512) (below-512 b)
-registers (Not d a) = cell-and d (ltb a 32) (ltb a 512) (below-512 a)
-registers (Shl d a b) = cells-and d a (ltb b 64) (ltb b 64) (λ h. h)
-registers (Shr d a b) = cells-and d a (ltb b 64) (ltb b 64) (λ h. h)
-registers (Spread d a) = cell-and d (ltb a 32) (ltb a 512) (below-512 a)
-registers (Add d a b) = cells-and d a (ltb b 32) (ltb b 512) (below-512 b)
-registers (Rand d) = below-512 d
-
 -- for plans and for share programs
 pub plan-exact : Exact inPlan
-plan-exact = exact inPlan (λ s h. registers s (both (not (eqb (kindNumber s) 9)) (within 32 s) h .1))
+plan-exact = exact inPlan (λ s h. within-more 32 512 (omega arith) s (both (not (eqb (kindNumber s) 9)) (within 32 s) h .1))
 
 pub program-exact : Exact inProgram
 program-exact = exact inProgram (λ s h. both (not (eqb (kindNumber s) 8)) (within 512 s) h .1)

@@ -4,16 +4,12 @@ use mathlib.Core.Bool.{Bool, cond, _&&_}
 use Prim.Native.Nat.{ℕ, _+_, _-_, _*_, _/_}
 use lib.Dec.{eqb, leb}
 
--- "A plan has 0..2,048 words"; "A share program has 0..7,815,168 words"
-abbrev pub planMax : ℕ
-planMax = 2048
-
-abbrev pub programMax : ℕ
-programMax = 7815168
-
 -- whether n shares can be: number 1 is "share count not 2..8"
+abbrev pub mostShares : ℕ
+mostShares = 8
+
 abbrev pub isShareCount : ℕ → Bool
-isShareCount n = leb 2 n && leb n 8
+isShareCount n = leb 2 n && leb n mostShares
 
 -- "Share i of register r is cell 32i + r."
 abbrev pub cell : ℕ → ℕ → ℕ
@@ -40,11 +36,28 @@ helper i h = 288 + 8 * i + h
 abbrev pub pairCount : ℕ → ℕ
 pairCount n = n * (n - 1) / 2
 
--- share words of a plan word by its kind: AND "5n² − 2n words", ADD "60n² − 3n words", others "Each n words". No plan word has a kind
--- outside 1 to 8; n stands there too.
+-- share words of AND, "5n² − 2n words", and of ADD, "60n² − 3n words"
+abbrev pub andLength : ℕ → ℕ
+andLength n = 5 * (n * n) - 2 * n
+
+abbrev pub addLength : ℕ → ℕ
+addLength n = 60 * (n * n) - 3 * n
+
+-- share words of a plan word by its kind; the others "Each n words". No plan word has a kind outside 1 to 8; n stands there too.
 unfoldable pub lengthOf : ℕ → ℕ → ℕ
-lengthOf k n = cond (eqb k 3) (5 * (n * n) - 2 * n) (cond (eqb k 8) (60 * (n * n) - 3 * n) n)
+lengthOf k n = cond (eqb k 3) (andLength n) (cond (eqb k 8) (addLength n) n)
 
 -- tape words likewise: AND "2Q tape words", ADD "24Q tape words", others "no tape"
 unfoldable pub tapeOf : ℕ → ℕ → ℕ
 tapeOf k n = cond (eqb k 3) (2 * pairCount n) (cond (eqb k 8) (24 * pairCount n) 0)
+
+-- "A plan has 0..2,048 words"
+abbrev pub planMax : ℕ
+planMax = 2048
+
+-- the most share words that a plan word gives, and that a plan gives: "A share program has 0..7,815,168 words"
+abbrev pub wordMax : ℕ
+wordMax = addLength mostShares
+
+abbrev pub programMax : ℕ
+programMax = planMax * wordMax

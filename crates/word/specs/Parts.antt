@@ -6,7 +6,7 @@ use Prim.Native.Nat.{ℕ, _^_, _<_}
 use lib.Dec.{T}
 use Rattle.word.specs.declared.step.Step.{Step}
 use Rattle.word.specs.declared.step.Decoded.the-variants.{Good, Bad}
-use Rattle.word.specs.Word.{taken, wordOf, inPlan, inProgram}
+use Rattle.word.specs.Encoding.{taken, wordOf, inPlan, inProgram}
 
 -- a word that is not bad is what its parts put together again, and these parts are in the rule's range
 pub record OfParts (rule : Step → Bool) (w : ℕ) : Type 0 where

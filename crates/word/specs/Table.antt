@@ -1,4 +1,6 @@
--- Document 01's table of kinds: which cell a step sets, and what that cell becomes. Both machines go by this one table.
+-- Document 01's table of kinds: which cell a step sets, which cells it reads, and what the cell becomes. Both machines go by this one table.
+use mathlib.Core.Bool.{Bool, true, _&&_}
+use mathlib.Core.List.{List, [], _∷_}
 use Prim.Native.Nat.{ℕ}
 use Rattle.bits.specs.Ops.{xorW, andW, notW, shlW, shrW, spreadW, addW}
 use Rattle.word.specs.declared.step.Step.{Step}
@@ -15,6 +17,30 @@ dest (Shr d a b) = d
 dest (Spread d a) = d
 dest (Add d a b) = d
 dest (Rand d) = d
+
+-- the cells that it reads: "a", "b" where they name cells
+abbrev pub reads : Step → List ℕ
+reads (Const d k) = []
+reads (Xor d a b) = a ∷ b ∷ []
+reads (And d a b) = a ∷ b ∷ []
+reads (Not d a) = a ∷ []
+reads (Shl d a b) = a ∷ []
+reads (Shr d a b) = a ∷ []
+reads (Spread d a) = a ∷ []
+reads (Add d a b) = a ∷ b ∷ []
+reads (Rand d) = []
+
+-- what holds of each cell of a list; a test of each, and of each cell that a step names
+abbrev pub Each : (ℕ → Type 0) → List ℕ → Type 0
+Each P [] = Unit {0}
+Each P (c ∷ cs) = P c × Each P cs
+
+abbrev pub allIn : (ℕ → Bool) → List ℕ → Bool
+allIn p [] = true
+allIn p (c ∷ cs) = p c && allIn p cs
+
+abbrev pub naming : (ℕ → Bool) → Step → Bool
+naming p s = allIn p (dest s ∷ reads s)
 
 -- "cell d becomes": `at` reads a cell, `next` is the next tape word
 abbrev pub becomes : Step → (ℕ → ℕ) → ℕ → ℕ

@@ -1,11 +1,5 @@
-// Step words, as document 01's section "Step words" has them: taking apart, putting together, checking, and the facts of the
-// word's own type. `specs/` has the definitions that the contracts cite.
-pub mod answer;
-pub mod check;
-pub mod program_check;
-pub mod reader;
-pub mod share_count;
+// Step words, as document 01's section "Step words" has them: taking apart, putting together, and the facts of the word's own type.
+// `specs/` has the definitions that the contracts cite.
 pub mod step;
 pub mod step_rule;
 pub mod step_word;
-pub mod table;

@@ -2,7 +2,7 @@
 ghost use mathlib.Core.Path.{_≡_};
 ghost use mathlib.Core.Bool.{_&&_};
 ghost use lib.Dec.{ltb};
-ghost use Rattle.word.specs.Word as spec;
+ghost use Rattle.word.specs.Encoding as spec;
 use crate::step::Decoded;
 use crate::step::Step;
 

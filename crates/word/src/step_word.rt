@@ -1,7 +1,7 @@
 // The step word's own type: its bit places, the cells and limits that go with it, and taking it apart and putting it together.
 ghost use mathlib.Core.Path.{_≡_};
-ghost use Rattle.word.specs.Word as spec;
-ghost use Rattle.word.specs.Word.{kindOf, bit27, fieldD, fieldA, fieldB, isGood, planStep, ruleFor, programStep, wordOf};
+ghost use Rattle.word.specs.Encoding as spec;
+ghost use Rattle.word.specs.Encoding.{kindOf, bit27, fieldD, fieldA, fieldB, isGood, planStep, ruleFor, programStep, wordOf};
 ghost use Rattle.word.specs.Layout as layout;
 use crate::step::Decoded;
 use crate::step::Step;
@@ -25,10 +25,12 @@ impl StepWord {
     // The values that a field of nine bits can have.
     pub const FIELD: u32 = 512;
 
-    // Limits of plans and share programs.
+    // Limits: of a plan, of one plan word's share words (ADD's for eight shares), and of a share program.
     pub const PLAN_MAX: usize = 2048;
 
-    pub const PROGRAM_MAX: usize = 7815168;
+    pub const WORD_MAX: usize = 60 * (8 * 8) - 3 * 8;
+
+    pub const PROGRAM_MAX: usize = StepWord::PLAN_MAX * StepWord::WORD_MAX;
 
     pub const REGISTERS: usize = 32;
 

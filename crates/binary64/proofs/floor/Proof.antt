@@ -9,14 +9,8 @@ use Rattle.binary64.proofs.FloorModel.{floor-large, floor-small-plus, f
 use Rattle.binary64.proofs.floor.Statement.{statement}
 use Rattle.binary64.proofs.floor.Tie as tie
 
-exponent-requires : tie.Need-exponent-requires
-exponent-requires c κs = search needs
-
 returns : tie.Need-returns
 returns c = sym (floor-large (c .before .before .args .a) (subst (λ (x : ℕ). 1075 ≤ x) (c .before .exponent .ensures) (c .if1 .taken)))
-
-sign-bit-requires : tie.Need-sign-bit-requires
-sign-bit-requires c κs = search needs
 
 -- the test of the sign bit, left in place
 plus : (s x : ℕ) → x ≡ s * 2 ^ 63 → x ≡ 0 → s ≡ 0
@@ -38,15 +32,6 @@ returns-3 c =
     let e = b .before .before in
     let a = e .before .args .a in
     sym (floor-small-minus a (subst (λ (x : ℕ). x < 1023) (e .exponent .ensures) (c .before .if2 .taken)) (minus (sign a) (b .sign-bit .result) (b .sign-bit .ensures) (c .if3 .left)))
-
-sub-clear : tie.Need-sub-clear
-sub-clear c = search needs
-
-clear-requires : tie.Need-clear-requires
-clear-requires c κs = search needs
-
-sub-raise : tie.Need-sub-raise
-sub-raise c = search needs
 
 room : (a E k : ℕ) → a < 2 ^ 64 → E ≡ expo a → E < 1075 → 2 ^ k ≤ 2 ^ 52 → a + 2 ^ k < 2 ^ 64
 room a E k h e l p = omega arith
@@ -83,14 +68,14 @@ pub floor-spec : {M : Type 1} → statement M
 floor-spec =
     tie.close
     (tie.spec
-    exponent-requires
+    (λ c κs. search needs)
     returns
-    sign-bit-requires
+    (λ c κs. search needs)
     returns-2
     returns-3
-    sub-clear
-    clear-requires
-    sub-raise
+    (λ c. search needs)
+    (λ c κs. search needs)
+    (λ c. search needs)
     raise-requires
     returns-4
     returns-5)

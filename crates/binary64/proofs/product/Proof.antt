@@ -12,12 +12,6 @@ use Rattle.binary64.proofs.Round.{bits-lt}
 use Rattle.binary64.proofs.product.Statement.{statement}
 use Rattle.binary64.proofs.product.Tie as tie
 
-sign-bit-requires : tie.Need-sign-bit-requires
-sign-bit-requires c κs = search needs
-
-magnitude-requires : tie.Need-magnitude-requires
-magnitude-requires c κs = search needs
-
 returns : tie.Need-returns
 unfolding Spec.product xorW
 returns c =
@@ -28,4 +22,7 @@ returns c =
     ∙ or-shifted (bitXor (sign a) (sign b)) 63 (magBits 1126 (magnitude a * magnitude b)) (bits-lt 1126 (magnitude a * magnitude b) (omega arith))
 
 pub product-spec : {M : Type 1} → statement M
-product-spec = tie.close (tie.spec sign-bit-requires magnitude-requires returns)
+product-spec = tie.close (tie.spec
+    (λ c κs. search needs)
+    (λ c κs. search needs)
+    returns)

@@ -16,8 +16,9 @@ ordered-requires-2 c κs = omega (arith, and-mask (c .before .args .a) 63, and-m
 returns : tie.Need-returns
 returns c = c .ordered .ensures ∙ sum-comm (c .before .before .args .b) (c .before .before .args .a)
 
-returns-2 : tie.Need-returns-2
-returns-2 c = search needs
-
 pub sum-spec : {M : Type 1} → statement M
-sum-spec = tie.close (tie.spec ordered-requires ordered-requires-2 returns returns-2)
+sum-spec = tie.close (tie.spec
+    ordered-requires
+    ordered-requires-2
+    returns
+    (λ c. search needs))

@@ -8,9 +8,9 @@ use lib.Dec.{T}
 use lib.ListN.{length, length-append, length-map}
 use Rattle.word.specs.declared.step.Step.{Step}
 use Rattle.word.specs.declared.step.Step.the-variants.{Const, Xor, And, Not, Shl, Shr, Spread, Add, Rand}
-use Rattle.word.specs.Word.{planStep, programStep, kindOf, kindNumber, inPlan, inProgram, wordOf}
-use Rattle.word.specs.Layout.{lengthOf, tapeOf}
-use Rattle.word.specs.Answers.{firstOf, firstBad}
+use Rattle.word.specs.Encoding.{planStep, programStep, kindOf, kindNumber, inPlan, inProgram, wordOf}
+use Rattle.word.specs.Layout.{lengthOf, tapeOf, wordMax}
+use Rattle.checks.specs.Answers.{firstOf, firstBad}
 use Rattle.word.proofs.Together.{program-exact}
 use Rattle.word.proofs.Small.{length-le}
 use Rattle.masking.specs.Translation.{upFrom, shares, shareCell, firstOther, scratch, andBlock, blocks, adding, laidOut, translated, program}
@@ -114,7 +114,7 @@ module _ (n : ℕ) (least : 2 ≤ n) (most : n ≤ 8) where
       ∙ rands-append (blocks scratch n (stepsFor (planStep w))) (blocks scratch n (planSteps ws))
       ∙ ap₂ (λ (x y : ℕ). x + y) (word-foretold w (h .0) .1) (plan-tape ws (h .1))
 
-  longest : (plan : List ℕ) → foretoldWords n plan ≤ 3816 * length plan
+  longest : (plan : List ℕ) → foretoldWords n plan ≤ wordMax * length plan
   longest [] = omega arith
   longest (w ∷ ws) = omega (arith, length-le n most (kindOf w), longest ws)
 

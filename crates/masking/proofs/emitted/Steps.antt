@@ -11,9 +11,10 @@ use borrow.Author.Tests.{eqb-true}
 use Rattle.word.specs.declared.step.Step.{Step}
 use Rattle.word.specs.declared.step.Decoded.{Decoded}
 use Rattle.word.specs.declared.step.Decoded.the-variants.{Good, Bad}
-use Rattle.word.specs.Word.{kindOf, bit27, fieldD, fieldA, fieldB, row, named, kindNumber, within, inPlan, inProgram, held, taken, planStep, wordOf}
-use Rattle.word.specs.Answers.{firstOf, firstBad}
-use Rattle.word.proofs.Together.{both, pick, never, taken-rule, program-exact}
+use Rattle.word.specs.Encoding.{kindOf, bit27, fieldD, fieldA, fieldB, row, named, kindNumber, within, inPlan, inProgram, held, taken, planStep, wordOf}
+use Rattle.checks.specs.Answers.{firstOf, firstBad}
+use Rattle.word.proofs.Ranges.{both}
+use Rattle.word.proofs.Together.{pick, never, taken-rule, program-exact}
 use Rattle.masking.specs.Translation.{Scratch, scratch, block, blocks, laidOut, translated, wordsFor, program}
 use Rattle.masking.specs.Foretold.{Accepted}
 use Rattle.masking.specs.Machine.{withStep, stepsOf}

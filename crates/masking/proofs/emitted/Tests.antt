@@ -1,18 +1,14 @@
--- Tests joined by `and` and `or`, and a test over a list of steps. Rests on word's Together for `and`.
-use mathlib.Core.Bool.{Bool, true, false, _&&_, _||_}
+-- Tests joined by `or`, and a test over a list of steps. Rests on word's Ranges for `and`.
+use mathlib.Core.Bool.{Bool, true, false, _||_}
 use mathlib.Core.List.{List, [], _∷_, _++_, map}
 use Prim.Native.Nat.{ℕ, zero, suc, _+_, _≤_, _<_}
 use native.Mathlib.Omega.{arith}
 use lib.Dec.{T}
 use lib.ListN.{take}
 use Rattle.word.specs.declared.step.Step.{Step}
-use Rattle.word.proofs.Together.{both}
+use Rattle.word.proofs.Ranges.{both, join}
 use Rattle.masking.specs.Translation.{upFrom}
 use Rattle.masking.specs.Counts.{allOf}
-
-pub join : (p q : Bool) → T p → T q → T (p && q)
-join true q a b = b
-join false q a b = absurd a
 
 pub or-left : (p q : Bool) → T p → T (p || q)
 or-left true q h = tt

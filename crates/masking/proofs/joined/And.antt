@@ -7,13 +7,14 @@ use native.Mathlib.Omega.{arith}
 use Rattle.bits.specs.Ops.{xorW, andW, shlW}
 use Rattle.bits.proofs.Shift.{shl-zero}
 use Rattle.word.specs.declared.step.Step.{Step}
-use Rattle.word.specs.declared.step.Step.the-variants.{Const, Xor, And, Not, Shl, Shr, Spread, Rand}
-use Rattle.masking.specs.Translation.{shares, pairs, shareCell, Scratch, refresh, products, andBlock}
+use Rattle.word.specs.declared.step.Step.the-variants.{And, Shl}
+use Rattle.word.proofs.Becomes.{becomes-lt}
+use Rattle.masking.specs.Translation.{shares, pairs, shareCell, Scratch, refresh, products, andBlock, cellsOf}
 use Rattle.masking.specs.Unsplit.{xorOver}
 use Rattle.masking.proofs.emitted.Pairs.{apart-pairs}
 use Rattle.masking.proofs.emitted.Places.{Places}
-use Rattle.masking.proofs.emitted.Ranges.{Names, Kinds, refresh-all, products-all, each}
-use Rattle.masking.proofs.joined.Cells.{Cells, upd, upd-other, upd-at, WordCells, Fits, step-fits}
+use Rattle.masking.proofs.emitted.Ranges.{Names, HoldsOn, refresh-all, products-all, each}
+use Rattle.masking.proofs.joined.Cells.{Cells, upd, upd-other, upd-at, WordCells, Fits}
 use Rattle.masking.proofs.joined.After.{after, after-mono, after-then, after-words}
 use Rattle.masking.proofs.joined.Sums.{sum-same, crosses, crosses-same, all-products}
 use Rattle.masking.proofs.joined.Once.{Written, each-after, joinOf, Sets, each-joins}
@@ -24,18 +25,8 @@ use Rattle.masking.proofs.joined.Products.{Multiplied, products-joins}
 pub any : (n w : ℕ) (C : Scratch) → Names n w C (λ x. Unit {0})
 any n w C = record { share = λ i r l m. tt; y = λ i l. tt; z = λ i l. tt; t = tt; u = tt }
 
-pub fit-kinds : Kinds (λ x. Unit {0}) Fits
-fit-kinds =
-    record {
-      const = λ d k h l. step-fits (Const d k) (omega arith);
-      xor = λ d a b h i j. step-fits (Xor d a b) tt;
-      and = λ d a b h i j. step-fits (And d a b) tt;
-      inv = λ d a h i. step-fits (Not d a) tt;
-      shl = λ d a k h i l. step-fits (Shl d a k) tt;
-      shr = λ d a k h i l. step-fits (Shr d a k) tt;
-      spread = λ d a h i. step-fits (Spread d a) tt;
-      rand = λ d h. step-fits (Rand d) tt;
-    }
+pub fit-steps : HoldsOn (λ x. Unit {0}) Fits
+fit-steps s k c f = becomes-lt s f
 
 -- the shares of all registers stay
 abbrev Kept : ℕ → ℕ → Cells → Cells → Type 0
@@ -64,7 +55,7 @@ module _ (n w : ℕ) (C : Scratch) (L : Places n w C) (d a b : ℕ) (ld : d < w)
   copied : (c : Cells) → WordCells c → after copyB (λ e. WordCells e × ((sumY e ≡ joinOf n c b) × Kept n w c e)) c
   copied c words =
       after-words copyB (λ e. (sumY e ≡ joinOf n c b) × Kept n w c e) c
-      (each n w C _ (any n w C) Fits fit-kinds (λ i. Shl (C .y i) (shareCell i b) 0) (λ i l. step-fits (Shl (C .y i) (shareCell i b) 0) tt)) words
+      (each n w C _ (any n w C) Fits fit-steps (λ i. Shl (C .y i) (shareCell i b) 0) (λ i l. becomes-lt (Shl (C .y i) (shareCell i b) 0) tt)) words
       (after-mono copyB (Written (C .y) g 0 n c) (λ e. (sumY e ≡ joinOf n c b) × Kept n w c e) c
       (λ e h. (
         sum-same n (λ i. e (C .y i)) (λ i. c (shareCell i b)) (λ i l. h .0 i (omega arith) (omega arith) ∙ shl-zero _ (words _)),
@@ -80,14 +71,14 @@ module _ (n w : ℕ) (C : Scratch) (L : Places n w C) (d a b : ℕ) (ld : d < w)
   refreshed : (c : Cells) → WordCells c → after (refresh C (pairs (shares n))) (λ e. WordCells e × Refreshed n w C L c e) c
   refreshed c words =
       after-words (refresh C (pairs (shares n))) (Refreshed n w C L c) c
-      (refresh-all n w C _ (any n w C) Fits fit-kinds (pairs (shares n)) (apart-pairs n)) words (refresh-joins n w C L (pairs (shares n)) (apart-pairs n) c)
+      (refresh-all n w C _ (any n w C) Fits fit-steps (pairs (shares n)) (apart-pairs n)) words (refresh-joins n w C L (pairs (shares n)) (apart-pairs n) c)
 
   -- z and the products still to come join to the AND
   started : (c : Cells) → WordCells c
       → after ownProducts (λ e. WordCells e × ((xorW (sumZ e) (added e) ≡ andW (joinOf n c a) (sumY c)) × Kept n w c e)) c
   started c words =
       after-words ownProducts (λ e. (xorW (sumZ e) (added e) ≡ andW (joinOf n c a) (sumY c)) × Kept n w c e) c
-      (each n w C _ (any n w C) Fits fit-kinds (λ i. And (C .z i) (shareCell i a) (C .y i)) (λ i l. step-fits (And (C .z i) (shareCell i a) (C .y i)) tt)) words
+      (each n w C _ (any n w C) Fits fit-steps (λ i. And (C .z i) (shareCell i a) (C .y i)) (λ i l. becomes-lt (And (C .z i) (shareCell i a) (C .y i)) tt)) words
       (after-mono ownProducts (Written (C .z) g 0 n c) (λ e. (xorW (sumZ e) (added e) ≡ andW (joinOf n c a) (sumY c)) × Kept n w c e) c
       (λ e h. (
         ap₂ xorW (sum-same n (λ i. e (C .z i)) (λ i. g i c) (λ i l. h .0 i (omega arith) (omega arith)))
@@ -104,10 +95,10 @@ module _ (n w : ℕ) (C : Scratch) (L : Places n w C) (d a b : ℕ) (ld : d < w)
       g : ℕ → Cells → ℕ
       g i c = andW (c (shareCell i a)) (c (C .y i))
 
-  multiplied : (c : Cells) → WordCells c → after (products C a (pairs (shares n))) (λ e. WordCells e × Multiplied n w C L a la (pairs (shares n)) c e) c
+  multiplied : (c : Cells) → WordCells c → after (products C (cellsOf a) (pairs (shares n))) (λ e. WordCells e × Multiplied n w C L a la (pairs (shares n)) c e) c
   multiplied c words =
-      after-words (products C a (pairs (shares n))) (Multiplied n w C L a la (pairs (shares n)) c) c
-      (products-all n w C _ (any n w C) Fits fit-kinds a la (pairs (shares n)) (apart-pairs n)) words (products-joins n w C L a la (pairs (shares n)) (apart-pairs n) c)
+      after-words (products C (cellsOf a) (pairs (shares n))) (Multiplied n w C L a la (pairs (shares n)) c) c
+      (products-all n w C _ (any n w C) Fits fit-steps a la (pairs (shares n)) (apart-pairs n)) words (products-joins n w C L a la (pairs (shares n)) (apart-pairs n) c)
 
   -- d joins to z
   written : (c : Cells) → WordCells c → after copyD (Sets n w c d (sumZ c)) c
@@ -116,13 +107,13 @@ module _ (n w : ℕ) (C : Scratch) (L : Places n w C) (d a b : ℕ) (ld : d < w)
       (λ c i j v l m ne. ap (λ (x : ℕ). shlW x 0) (upd-other c (shareCell j d) v (C .z i) (λ q. L .share-z j d i m ld l (sym q)))) c (sumZ c)
       (sum-same n (λ i. shlW (c (C .z i)) 0) (λ i. c (C .z i)) (λ i l. shl-zero _ (words _)))
 
-  pub and-joins : (c : Cells) → WordCells c → after (andBlock C n d a b) (Sets n w c d (andW (joinOf n c a) (joinOf n c b))) c
+  pub and-joins : (c : Cells) → WordCells c → after (andBlock C n (cellsOf d) (cellsOf a) (cellsOf b)) (Sets n w c d (andW (joinOf n c a) (joinOf n c b))) c
   unfolding andBlock
   and-joins c words =
       after-then copyB _ _ Ψ c (copied c words) (λ e₁ h₁.
       after-then (refresh C (pairs (shares n))) _ _ Ψ e₁ (refreshed e₁ (h₁ .0)) (λ e₂ h₂.
       after-then ownProducts _ _ Ψ e₂ (started e₂ (h₂ .0)) (λ e₃ h₃.
-      after-then (products C a (pairs (shares n))) copyD _ Ψ e₃ (multiplied e₃ (h₃ .0)) (λ e₄ h₄.
+      after-then (products C (cellsOf a) (pairs (shares n))) copyD _ Ψ e₃ (multiplied e₃ (h₃ .0)) (λ e₄ h₄.
       after-mono copyD (Sets n w e₄ d (sumZ e₄)) Ψ e₄ (λ e h r l.
       h r l ∙ upd-at (joinOf n e₄) (joinOf n c) d (sumZ e₄) r
       (sum-same n (λ i. e₄ (shareCell i r)) (λ i. c (shareCell i r)) (λ i m. h₄ .1 .1 i r m l ∙ h₃ .1 .1 i r m l ∙ h₂ .1 .1 i r m l ∙ h₁ .1 .1 i r m l))

@@ -6,19 +6,18 @@ use mathlib.Core.List.{map}
 use Prim.Native.Nat.{ℕ, zero, suc, _+_, _-_, _^_, _<_, _≤_}
 use native.Mathlib.Omega.{arith}
 use native.Mathlib.Decide.{ℕ-discrete}
-use lib.Dec.{T, ltb, ltb→lt}
+use lib.Dec.{T}
 use Rattle.bits.specs.Ops.{xorW, notW, shlW, shrW, spreadW}
 use Rattle.bits.proofs.Xor.{xor·ring, xor-zero, not-xor}
 use Rattle.bits.proofs.Shift.{shl-xor, shr-xor, spread-xor, shl-zero}
 use Rattle.word.specs.declared.step.Step.{Step}
 use Rattle.word.specs.declared.step.Step.the-variants.{Const, Xor, And, Not, Shl, Shr, Spread, Add, Rand}
-use Rattle.word.specs.Word.{within}
+use Rattle.word.specs.Encoding.{within}
 use Rattle.word.specs.Table.{dest, becomes}
 use Rattle.masking.specs.Translation.{upFrom, shares, shareCell, firstOther, Scratch, block}
 use Rattle.masking.specs.Unsplit.{xorOver}
-use Rattle.word.proofs.Together.{both}
+use Rattle.word.proofs.Ranges.{within-cells}
 use Rattle.masking.proofs.emitted.Places.{Places}
-use Rattle.masking.proofs.emitted.Ranges.{one, two}
 use Rattle.masking.proofs.joined.Cells.{Cells, upd, upd-same, upd-other, WordCells, stepOn}
 use Rattle.masking.proofs.joined.After.{after, after-mono}
 use Rattle.masking.proofs.joined.Sums.{sum-same, sum-lt, sum-through, sum-xor, firstWord, sum-first}
@@ -141,23 +140,23 @@ module _ (n w : ℕ) (C : Scratch) (L : Places n w C) where
 
   pub once-joins : (s : Step) → T (within w s) → Once s → 0 < n → (c : Cells) → WordCells c
       → after (block C n s) (Sets n w c (dest s) (becomes s (joinOf n c) 0)) c
-  once-joins (Const d k) h o some c words = const-joins d k (ltb→lt d w (both (ltb d w) (ltb k (2 ^ 18)) h .0)) some c
+  once-joins (Const d k) h o some c words = const-joins d k (within-cells w (Const d k) h .0) some c
   once-joins (Xor d a b) h o some c words =
-      let e = two w d a (ltb b w) h in
+      let e = within-cells w (Xor d a b) h in
       each-joins d (e .0) (λ i. Xor (shareCell i d) (shareCell i a) (shareCell i b)) (λ i c. xorW (c (shareCell i a)) (c (shareCell i b))) (λ i t c. refl)
-      (own-shares d (e .0) (λ i c. xorW (c (shareCell i a)) (c (shareCell i b))) (λ c c′ i g. ap₂ xorW (g a (e .1)) (g b (ltb→lt b w (e .2)))))
+      (own-shares d (e .0) (λ i c. xorW (c (shareCell i a)) (c (shareCell i b))) (λ c c′ i g. ap₂ xorW (g a (e .1 .0)) (g b (e .1 .1 .0))))
       c (xorW (joinOf n c a) (joinOf n c b))
       (sum-xor (λ i. c (shareCell i a)) (λ i. c (shareCell i b)) (shares n))
   once-joins (And d a b) h o some c words = absurd o
-  once-joins (Not d a) h o some c words = let e = one w d a h in not-joins d a (e .0) (e .1) some c words
+  once-joins (Not d a) h o some c words = let e = within-cells w (Not d a) h in not-joins d a (e .0) (e .1 .0) some c words
   once-joins (Shl d a b) h o some c words =
-      let e = two w d a (ltb b 64) h in
-      through-joins d a (e .0) (e .1) (λ i. Shl (shareCell i d) (shareCell i a) b) (λ x. shlW x b) (λ i t c. refl) (λ x y. shl-xor x y b) c
+      let e = within-cells w (Shl d a b) h in
+      through-joins d a (e .0) (e .1 .0) (λ i. Shl (shareCell i d) (shareCell i a) b) (λ x. shlW x b) (λ i t c. refl) (λ x y. shl-xor x y b) c
   once-joins (Shr d a b) h o some c words =
-      let e = two w d a (ltb b 64) h in
-      through-joins d a (e .0) (e .1) (λ i. Shr (shareCell i d) (shareCell i a) b) (λ x. shrW x b) (λ i t c. refl) (λ x y. shr-xor x y b) c
+      let e = within-cells w (Shr d a b) h in
+      through-joins d a (e .0) (e .1 .0) (λ i. Shr (shareCell i d) (shareCell i a) b) (λ x. shrW x b) (λ i t c. refl) (λ x y. shr-xor x y b) c
   once-joins (Spread d a) h o some c words =
-      let e = one w d a h in
-      through-joins d a (e .0) (e .1) (λ i. Spread (shareCell i d) (shareCell i a)) spreadW (λ i t c. refl) spread-xor c
+      let e = within-cells w (Spread d a) h in
+      through-joins d a (e .0) (e .1 .0) (λ i. Spread (shareCell i d) (shareCell i a)) spreadW (λ i t c. refl) spread-xor c
   once-joins (Add d a b) h o some c words = absurd o
   once-joins (Rand d) h o some c words = absurd o

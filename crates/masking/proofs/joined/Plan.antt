@@ -1,15 +1,15 @@
 -- The joined result: after the share program of an accepted plan's first k words every register joins to what these words give unsplit,
 -- over any tape. Rests on Blocks (share steps join), Add (the adder) and emitted.Steps (words as steps).
 use mathlib.Core.Path.{_≡_, refl, sym, ap, _∙_}
-use mathlib.Core.Bool.{not, _&&_}
+use mathlib.Core.Bool.{not}
 use mathlib.Core.List.{List, [], _∷_}
 use Prim.Native.Nat.{ℕ, _<_, _≤_}
 use native.Mathlib.Omega.{arith}
-use lib.Dec.{T, eqb, ltb, ltb→lt}
+use lib.Dec.{T, eqb}
 use lib.ListN.{length, getD, take, length-set}
 use Rattle.word.specs.declared.step.Step.{Step}
 use Rattle.word.specs.declared.step.Step.the-variants.{Const, Xor, And, Not, Shl, Shr, Spread, Add, Rand}
-use Rattle.word.specs.Word.{within, kindNumber, inPlan}
+use Rattle.word.specs.Encoding.{within, kindNumber, inPlan}
 use Rattle.word.specs.Layout.{cell}
 use Rattle.word.specs.Table.{dest, becomes}
 use Rattle.plain.specs.Machine.{stepped, run}
@@ -17,7 +17,7 @@ use Rattle.masking.specs.Translation.{shareCell, scratch, blocks, laidOu
 use Rattle.masking.specs.Foretold.{Accepted}
 use Rattle.masking.specs.Machine.{exec, execSteps, Words}
 use Rattle.masking.specs.Unsplit.{joined, unsplit}
-use Rattle.word.proofs.Together.{both}
+use Rattle.word.proofs.Ranges.{both, within-cells}
 use Rattle.masking.proofs.emitted.Rising.{getD-from}
 use Rattle.masking.proofs.emitted.Tests.{All}
 use Rattle.masking.proofs.emitted.Places.{share-register, Places, places}
@@ -54,9 +54,8 @@ laid-same (Shl d a b) h R w r l = refl
 laid-same (Shr d a b) h R w r l = refl
 laid-same (Spread d a) h R w r l = refl
 laid-same (Add d a b) h R w r l =
-    let e = both (ltb d 32) (ltb a 32 && ltb b 32) h in
-    let f = both (ltb a 32) (ltb b 32) (e .1) in
-    adding-sum R d a b (ltb→lt a 32 (f .0)) (ltb→lt b 32 (f .1)) (w a) (w b) r l
+    let e = within-cells 32 (Add d a b) h in
+    adding-sum R d a b (e .1 .0) (e .1 .1 .0) (w a) (w b) r l
 laid-same (Rand d) h R w r l = absurd h
 
 stepped-length : (s : Step) (l : List ℕ) → length l ≡ 32 → length (stepped s l) ≡ 32

@@ -7,7 +7,7 @@ use Rattle.bits.specs.Ops.{xorW, andW}
 use Rattle.bits.proofs.Xor.{xor·ring, xor-zero, xor-assoc}
 use Rattle.word.specs.declared.step.Step.{Step}
 use Rattle.word.specs.declared.step.Step.the-variants.{Xor, And}
-use Rattle.masking.specs.Translation.{shares, Pair, shareCell, Scratch, products}
+use Rattle.masking.specs.Translation.{shares, Pair, shareCell, Scratch, products, cellsOf}
 use Rattle.masking.specs.Unsplit.{xorOver}
 use Rattle.masking.proofs.emitted.Pairs.{Apart}
 use Rattle.masking.proofs.emitted.Places.{Places}
@@ -157,11 +157,11 @@ module _ (n w : ℕ) (C : Scratch) (L : Places n w C) (a : ℕ) (la : a < w) whe
       (xorOver (λ i. e (C .z i)) (shares n) ≡ xorW (xorOver (λ i. c (C .z i)) (shares n)) (crosses (λ i. c (shareCell i a)) (λ i. c (C .y i)) ps))
       × ((i r : ℕ) → i < n → r < w → e (shareCell i r) ≡ c (shareCell i r))
 
-  pub products-joins : (ps : List Pair) → Apart n ps → (c : Cells) → after (products C a ps) (Multiplied ps c) c
+  pub products-joins : (ps : List Pair) → Apart n ps → (c : Cells) → after (products C (cellsOf a) ps) (Multiplied ps c) c
   products-joins [] s c = (sym (xor-zero _), λ i r l m. refl)
   products-joins (p ∷ ps) s c = λ r lr.
-      pair-after p r c (s .0) (s .1) (s .2) (products C a ps) (Multiplied (p ∷ ps) c)
-      (after-mono (products C a ps) (Multiplied ps (c7 C a p r c)) (Multiplied (p ∷ ps) c) (c7 C a p r c)
+      pair-after p r c (s .0) (s .1) (s .2) (products C (cellsOf a) ps) (Multiplied (p ∷ ps) c)
+      (after-mono (products C (cellsOf a) ps) (Multiplied ps (c7 C a p r c)) (Multiplied (p ∷ ps) c) (c7 C a p r c)
       (λ e q. (q .0 ∙ gains r, λ i x l m. q .1 i x l m ∙ share-off p r c (s .0) (s .1) (s .2) i x l m))
       (products-joins ps (s .3) (c7 C a p r c)))
     where

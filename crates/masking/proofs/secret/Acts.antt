@@ -9,7 +9,7 @@ use lib.ListN.{length, getD, take, drop}
 use Rattle.bits.specs.Ops.{xorW, andW, notW, shlW, shrW, spreadW, addW}
 use Rattle.word.specs.declared.step.Step.{Step}
 use Rattle.word.specs.declared.step.Step.the-variants.{Const, Xor, And, Not, Shl, Shr, Spread, Add, Rand}
-use Rattle.word.specs.Word.{inProgram}
+use Rattle.word.specs.Encoding.{inProgram}
 use Rattle.word.specs.Table.{dest, becomes}
 use Rattle.masking.specs.Machine.{takes, execSteps, randsOf}
 use Rattle.masking.proofs.emitted.Tests.{All, all-take}

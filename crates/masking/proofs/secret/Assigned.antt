@@ -9,7 +9,7 @@ use native.Mathlib.Omega.{arith}
 use lib.Dec.{T}
 use lib.ListN.{length}
 use Rattle.word.specs.declared.step.Step.{Step}
-use Rattle.masking.specs.Translation.{Pair, Scratch, refresh, products}
+use Rattle.masking.specs.Translation.{Pair, Scratch, refresh, products, cellsOf}
 use Rattle.masking.proofs.emitted.Pairs.{Apart}
 use Rattle.masking.proofs.secret.Acts.{acts}
 use Rattle.masking.proofs.secret.Wp.{Marks, next}
@@ -78,7 +78,7 @@ marksN K m (p ∷ ps) =
     mark (m 2) (p .hi) (mark (m 3) (cond (K (p .lo)) (p .hi) (p .lo)) (mark (m 4) (p .lo) (marksN K (next7 m) ps)))
 
 pub products-count : (sc : Scratch) (a : ℕ) (K : ℕ → Bool) (m : Marks) (ps : List Pair)
-    → (length (marksK m ps) + length (marksA m ps) ≤ count m (acts (products sc a ps))) × (length (marksK m ps) + length (marksN K m ps) ≤ count m (acts (products sc a ps)))
+    → (length (marksK m ps) + length (marksA m ps) ≤ count m (acts (products sc (cellsOf a) ps))) × (length (marksK m ps) + length (marksN K m ps) ≤ count m (acts (products sc (cellsOf a) ps)))
 products-count sc a K m [] = (omega arith, omega arith)
 products-count sc a K m (p ∷ ps) =
     let q = products-count sc a K (next7 m) ps in

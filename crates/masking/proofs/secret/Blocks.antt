@@ -10,9 +10,9 @@ use lib.ListN.{length, length-append}
 use Rattle.bits.specs.Ops.{xorW, notW, shlW, shrW, spreadW}
 use Rattle.word.specs.declared.step.Step.{Step}
 use Rattle.word.specs.declared.step.Step.the-variants.{Const, Xor, And, Not, Shl, Shr, Spread, Add, Rand}
-use Rattle.word.specs.Table.{dest}
-use Rattle.masking.specs.Translation.{Scratch, shareCell, shares, firstOther, andBlock, block, blocks}
-use Rattle.word.proofs.Together.{both}
+use Rattle.word.specs.Table.{dest, reads}
+use Rattle.masking.specs.Translation.{Scratch, shareCell, shares, firstOther, andBlock, block, blocks, cellsOf}
+use Rattle.word.proofs.Ranges.{both}
 use Rattle.masking.proofs.emitted.Places.{Places}
 use Rattle.masking.proofs.joined.Cells.{Cells}
 use Rattle.masking.proofs.secret.Acts.{write, act, acts}
@@ -22,7 +22,7 @@ use Rattle.masking.proofs.secret.Sets.{has, has-left, has-right, count}
 use Rattle.masking.proofs.secret.Assigned.{marked, asked-in, marked-count}
 use Rattle.masking.proofs.secret.Registers.{Agreed, adds, fewer, per-share}
 use Rattle.masking.proofs.secret.AndMarked.{setW, size-W, and-marked}
-use Rattle.masking.proofs.secret.Reading.{reads, readable, readable-parts, reading}
+use Rattle.masking.proofs.secret.Reading.{readable, readable-parts, reading}
 use Rattle.masking.proofs.secret.Gadgets.{Gadget, row, Ready}
 
 -- a block that works once per share: share i's step, and the word that it writes, made of shares i of what the step reads
@@ -131,8 +131,8 @@ module _ (n w : ℕ) (sc : Scratch) (L : Places n w sc) where
         hides = λ m S R h small c c′ g. once-hides s p m S R h c c′ g;
       }
 
-  and-hides : (d a b : ℕ) (m : Marks) (S : List ℕ) (R : ℕ → Bool) → T (readable w R (And d a b)) → length S + count m (acts (andBlock sc n d a b)) < n
-      → (c c′ : Cells) → Agreed n w R (has (setW sc n d a b m S)) c c′ → wp m (acts (andBlock sc n d a b)) (Agreed n w (adds d R) (has S)) c c′
+  and-hides : (d a b : ℕ) (m : Marks) (S : List ℕ) (R : ℕ → Bool) → T (readable w R (And d a b)) → length S + count m (acts (andBlock sc n (cellsOf d) (cellsOf a) (cellsOf b))) < n
+      → (c c′ : Cells) → Agreed n w R (has (setW sc n d a b m S)) c c′ → wp m (acts (andBlock sc n (cellsOf d) (cellsOf a) (cellsOf b))) (Agreed n w (adds d R) (has S)) c c′
   and-hides d a b m S R h small c c′ g =
       let e = readable-parts w R (And d a b) h in
       let ka = e .1 a (inl refl) in
@@ -142,7 +142,7 @@ module _ (n w : ℕ) (sc : Scratch) (L : Places n w sc) where
   abbrev product : ℕ → ℕ → ℕ → Gadget n w
   product d a b =
       record {
-        code = andBlock sc n d a b;
+        code = andBlock sc n (cellsOf d) (cellsOf a) (cellsOf b);
         sets = d;
         ready = λ R. readable w R (And d a b);
         before = setW sc n d a b;

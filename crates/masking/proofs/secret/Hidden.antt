@@ -9,7 +9,7 @@ use lib.Dec.{T}
 use lib.ListN.{length, getD, take}
 use Rattle.word.specs.declared.step.Step.{Step}
 use Rattle.word.specs.declared.step.Step.the-variants.{Rand}
-use Rattle.word.specs.Word.{inProgram}
+use Rattle.word.specs.Encoding.{inProgram}
 use Rattle.word.specs.Table.{dest}
 use Rattle.masking.specs.Translation.{Scratch, shareCell, blocks}
 use Rattle.masking.specs.Machine.{execSteps, randsOf, Start}

@@ -11,7 +11,7 @@ use lib.Dec.{T}
 use Rattle.bits.specs.Ops.{xorW, andW}
 use Rattle.bits.proofs.Xor.{xor-zero, xor·ring}
 use Rattle.bits.proofs.Bound.{xor-lt, and-lt}
-use Rattle.masking.specs.Translation.{Pair, Scratch, shareCell, products}
+use Rattle.masking.specs.Translation.{Pair, Scratch, shareCell, products, cellsOf}
 use Rattle.masking.proofs.joined.Cells.{Cells, upd, upd-same, upd-other, WordCells}
 use Rattle.masking.proofs.secret.Acts.{Act, write, acts}
 use Rattle.masking.proofs.secret.Wp.{Marks, next, wp, wp-write, Off}
@@ -259,7 +259,7 @@ module _ (n w : ℕ) (sc : Scratch) (L : Places n w sc) (ra : ℕ) (lra : ra < w
           by i li x (no e) (no f) =
               keep (z i) (L .z-t i li) (L .z-u i li) (λ o. e (L .z-z _ _ li (d .l) o)) (λ o. f (L .z-z _ _ li (d .h) o)) (g .on-z i li x)
 
-    pub products-wp : (m : Marks) (ps : List Pair) (c c′ : Cells) → PairsAsk n k A K m ps → Equal c c′ → wp m (acts (products sc ra ps)) Equal c c′
+    pub products-wp : (m : Marks) (ps : List Pair) (c c′ : Cells) → PairsAsk n k A K m ps → Equal c c′ → wp m (acts (products sc (cellsOf ra) ps)) Equal c c′
     products-wp m [] c c′ s g = g
     products-wp m (p ∷ ps) c c′ s g = (
       ch .δ,
@@ -277,7 +277,7 @@ module _ (n w : ℕ) (sc : Scratch) (L : Places n w sc) (ra : ℕ) (lra : ra < w
     )
       where
         rest : List Act
-        rest = acts (products sc ra ps)
+        rest = acts (products sc (cellsOf ra) ps)
 
         q : PairAsks n k A K m p
         q = s .0
@@ -289,7 +289,7 @@ module _ (n w : ℕ) (sc : Scratch) (L : Places n w sc) (ra : ℕ) (lra : ra < w
         ch = choose m p q c c′ g
 
     -- the products set no share of a register
-    pub products-off : (i r : ℕ) → i < n → r < w → (m : Marks) (ps : List Pair) → PairsAsk n k A K m ps → Off (shareCell i r) (acts (products sc ra ps))
+    pub products-off : (i r : ℕ) → i < n → r < w → (m : Marks) (ps : List Pair) → PairsAsk n k A K m ps → Off (shareCell i r) (acts (products sc (cellsOf ra) ps))
     products-off i r l lr m [] s = tt
     products-off i r l lr m (p ∷ ps) s =
         let x : shareCell i r ≡ t → ⊥ = L .share-t i r l lr in

@@ -4,31 +4,19 @@ use mathlib.Core.Path.{_≡_, refl}
 use mathlib.Core.Bool.{Bool, true, false, _&&_, _||_}
 use mathlib.Core.List.{List, [], _∷_, _++_}
 use mathlib.Core.Logic.{⊎-elim}
-use Prim.Native.Nat.{ℕ, _^_, _<_}
+use Prim.Native.Nat.{ℕ, _<_}
 use native.Mathlib.Omega.{arith}
-use lib.Dec.{T, ltb, ltb→lt, eqb}
+use lib.Dec.{T, ltb, ltb→lt, lt→ltb, eqb}
 use borrow.Author.Tests.{lt-ltb}
 use Rattle.word.specs.declared.step.Step.{Step}
 use Rattle.word.specs.declared.step.Step.the-variants.{Const, Xor, And, Not, Shl, Shr, Spread, Add, Rand}
-use Rattle.word.specs.Word.{inPlan}
-use Rattle.word.specs.Table.{dest}
+use Rattle.word.specs.Encoding.{inPlan, within}
+use Rattle.word.specs.Table.{dest, reads, allIn}
 use Rattle.masking.specs.Translation.{adding, laidOut}
-use Rattle.word.proofs.Together.{both}
-use Rattle.masking.proofs.emitted.Tests.{join, or-right}
+use Rattle.word.proofs.Ranges.{both, join, each-of, each-tested, within-cells}
+use Rattle.masking.proofs.emitted.Tests.{or-right}
 use Rattle.masking.proofs.secret.Meeting.{In}
 use Rattle.masking.proofs.secret.Registers.{adds}
-
--- the registers that a step reads
-abbrev pub reads : Step → List ℕ
-reads (Const d k) = []
-reads (Xor d a b) = a ∷ b ∷ []
-reads (And d a b) = a ∷ b ∷ []
-reads (Not d a) = a ∷ []
-reads (Shl d a b) = a ∷ []
-reads (Shr d a b) = a ∷ []
-reads (Spread d a) = a ∷ []
-reads (Add d a b) = a ∷ b ∷ []
-reads (Rand d) = []
 
 -- the kinds that have a block of share steps: ADD is laid out first
 abbrev pub onShares : Step → Bool
@@ -43,29 +31,25 @@ onShares (Add d a b) = false
 onShares (Rand d) = false
 
 module _ (w : ℕ) where
-  -- all are among the w registers and in R
-  abbrev pub allKnown : (ℕ → Bool) → List ℕ → Bool
-  allKnown R [] = true
-  allKnown R (r ∷ rs) = ltb r w && (R r && allKnown R rs)
-
+  -- a step reads registers of R, and sets one of the w
   abbrev pub readable : (ℕ → Bool) → Step → Bool
-  readable R s = onShares s && (ltb (dest s) w && allKnown R (reads s))
+  readable R s = onShares s && (ltb (dest s) w && allIn (λ r. ltb r w && R r) (reads s))
 
   abbrev pub reading : (ℕ → Bool) → List Step → Bool
   reading R [] = true
   reading R (s ∷ ss) = readable R s && reading (adds (dest s) R) ss
 
-  pub known-in : (R : ℕ → Bool) (rs : List ℕ) → T (allKnown R rs) → (r : ℕ) → In r rs → (r < w) × T (R r)
+  known-in : (R : ℕ → Bool) (rs : List ℕ) → T (allIn (λ r. ltb r w && R r) rs) → (r : ℕ) → In r rs → (r < w) × T (R r)
   known-in R [] h r q = absurd q
   known-in R (x ∷ rs) h r q =
-      let e = both (ltb x w) (R x && allKnown R rs) h in
-      let f = both (R x) (allKnown R rs) (e .1) in
-      ⊎-elim (λ (o : r ≡ x). rw o (ltb→lt x w (e .0), f .0)) (λ (o : In r rs). known-in R rs (f .1) r o) q
+      let e = both (ltb x w && R x) (allIn (λ r. ltb r w && R r) rs) h in
+      let f = both (ltb x w) (R x) (e .0) in
+      ⊎-elim (λ (o : r ≡ x). rw o (ltb→lt x w (f .0), f .1)) (λ (o : In r rs). known-in R rs (e .1) r o) q
 
   pub readable-parts : (R : ℕ → Bool) (s : Step) → T (readable R s) → (dest s < w) × ((r : ℕ) → In r (reads s) → (r < w) × T (R r))
   readable-parts R s h =
-      let e = both (onShares s) (ltb (dest s) w && allKnown R (reads s)) h in
-      let f = both (ltb (dest s) w) (allKnown R (reads s)) (e .1) in
+      let e = both (onShares s) (ltb (dest s) w && allIn (λ r. ltb r w && R r) (reads s)) h in
+      let f = both (ltb (dest s) w) (allIn (λ r. ltb r w && R r) (reads s)) (e .1) in
       (ltb→lt (dest s) w (f .0), known-in R (reads s) (f .1))
 
   pub reading-append : (R : ℕ → Bool) (xs ys : List Step) → T (reading R xs)
@@ -92,34 +76,30 @@ adding-reading R d a b ld la ka lb kb =
 
 -- where R has the plan's registers
 module _ (R : ℕ → Bool) (has32 : (r : ℕ) → r < 32 → T (R r)) where
-  low : (r : ℕ) → T (ltb r 32) → (ltb r 40 ≡ true) × (R r ≡ true)
-  low r h = let l : r < 32 = ltb→lt r 32 h in (lt-ltb r 40 (omega arith), is-true (R r) (has32 r l))
-
-  one : (d : ℕ) (t : Bool) → T (ltb d 32 && t) → ltb d 40 ≡ true
-  one d t h = low d (both (ltb d 32) t h .0) .0
-
-  two : (d a : ℕ) (t : Bool) → T (ltb d 32 && (ltb a 32 && t)) → (ltb d 40 ≡ true) × (ltb a 40 ≡ true) × (R a ≡ true)
-  two d a t h =
-      let e = both (ltb d 32) (ltb a 32 && t) h in
-      let f = low a (both (ltb a 32) t (e .1) .0) in
-      (low d (e .0) .0, f .0, f .1)
-
-  last : (d a : ℕ) → T (ltb d 32 && ltb a 32) → (ltb d 40 ≡ true) × (ltb a 40 ≡ true) × (R a ≡ true)
-  last d a h =
-      let e = both (ltb d 32) (ltb a 32) h in
-      let f = low a (e .1) in
-      (low d (e .0) .0, f .0, f .1)
-
-  three : (d a b : ℕ) → T (ltb d 32 && (ltb a 32 && ltb b 32)) → (ltb b 40 ≡ true) × (R b ≡ true)
-  three d a b h = low b (both (ltb a 32) (ltb b 32) (both (ltb d 32) (ltb a 32 && ltb b 32) h .1) .1)
+  step-reading : (s : Step) → T (onShares s) → T (within 32 s) → T (reading 40 R (s ∷ []))
+  step-reading s o h =
+      let e = within-cells 32 s h in
+      join (readable 40 R s) true
+      (join (onShares s) (ltb (dest s) 40 && allIn (λ r. ltb r 40 && R r) (reads s)) o
+      (join (ltb (dest s) 40) (allIn (λ r. ltb r 40 && R r) (reads s)) (low (dest s) (e .0))
+      (each-tested (λ r. ltb r 40 && R r) (reads s)
+      (each-of (λ r. r < 32) (λ r. T (ltb r 40 && R r)) (λ r l. join (ltb r 40) (R r) (low r l) (has32 r l)) (reads s) (e .1))))) tt
+    where
+      low : (r : ℕ) → r < 32 → T (ltb r 40)
+      low r l = lt→ltb r 40 (omega arith)
 
   pub laid-reading : (s : Step) → T (inPlan s) → T (reading 40 R (laidOut s))
-  laid-reading (Const d k) h = rw (one d (ltb k (2 ^ 18)) h) tt
-  laid-reading (Xor d a b) h = let e = two d a (ltb b 32) h in let f = three d a b h in rw (e .0, e .1, e .2, f .0, f .1) tt
-  laid-reading (And d a b) h = let e = two d a (ltb b 32) h in let f = three d a b h in rw (e .0, e .1, e .2, f .0, f .1) tt
-  laid-reading (Not d a) h = let e = last d a h in rw (e .0, e .1, e .2) tt
-  laid-reading (Shl d a b) h = let e = two d a (ltb b 64) h in rw (e .0, e .1, e .2) tt
-  laid-reading (Shr d a b) h = let e = two d a (ltb b 64) h in rw (e .0, e .1, e .2) tt
-  laid-reading (Spread d a) h = let e = last d a h in rw (e .0, e .1, e .2) tt
-  laid-reading (Add d a b) h = let e = two d a (ltb b 32) h in let f = three d a b h in adding-reading R d a b (e .0) (e .1) (e .2) (f .0) (f .1)
+  laid-reading (Const d k) h = step-reading (Const d k) tt h
+  laid-reading (Xor d a b) h = step-reading (Xor d a b) tt h
+  laid-reading (And d a b) h = step-reading (And d a b) tt h
+  laid-reading (Not d a) h = step-reading (Not d a) tt h
+  laid-reading (Shl d a b) h = step-reading (Shl d a b) tt h
+  laid-reading (Shr d a b) h = step-reading (Shr d a b) tt h
+  laid-reading (Spread d a) h = step-reading (Spread d a) tt h
+  laid-reading (Add d a b) h =
+      let e = within-cells 32 (Add d a b) h in
+      adding-reading R d a b (low d (e .0)) (low a (e .1 .0)) (is-true (R a) (has32 a (e .1 .0))) (low b (e .1 .1 .0)) (is-true (R b) (has32 b (e .1 .1 .0)))
+    where
+      low : (r : ℕ) → r < 32 → ltb r 40 ≡ true
+      low r l = lt-ltb r 40 (omega arith)
   laid-reading (Rand d) h = absurd h

@@ -10,7 +10,7 @@ use lib.Dec.{T, ltb, ltb→lt, lt→ltb}
 use lib.ListN.{length, getD, take, length-map}
 use Rattle.word.specs.declared.step.Step.{Step}
 use Rattle.word.specs.declared.step.Step.the-variants.{Const, Xor, And, Not, Shl, Shr, Spread, Add, Rand}
-use Rattle.word.specs.Word.{fieldD, put, wordOf, planStep, inProgram}
+use Rattle.word.specs.Encoding.{fieldD, put, wordOf, planStep, inProgram}
 use Rattle.word.specs.Table.{dest}
 use Rattle.masking.specs.Translation.{scratch, blocks, program}
 use Rattle.masking.specs.Foretold.{Accepted, foretoldTape}

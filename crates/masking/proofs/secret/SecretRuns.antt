@@ -6,7 +6,7 @@ use Prim.Native.Nat.{ℕ, suc, _<_, _≤_}
 use native.Mathlib.Omega.{arith}
 use lib.ListN.{length, getD, take, drop, length-append}
 use lib.Seq.{drop-at}
-use Rattle.word.specs.Word.{fieldD}
+use Rattle.word.specs.Encoding.{fieldD}
 use Rattle.masking.specs.Translation.{program}
 use Rattle.masking.specs.Foretold.{Accepted}
 use Rattle.masking.specs.Machine.{exec, Start}

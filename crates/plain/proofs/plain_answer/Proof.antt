@@ -1,57 +1,38 @@
 -- `plain::plain_answer` meets its contract.
-use borrow.Author.Tests.{lt-ltb, le-ltb, eq-eqb, ne-eqb}
-use Rattle.plain.specs.Call.{plainAnswer}
+use mathlib.Core.Path.{sym, _∙_}
+use borrow.Author.Tests.{eq-eqb, ne-eqb}
 use borrow.Author.Needs.{needs}
+use Rattle.word.specs.Encoding.{planStep}
+use Rattle.word.specs.Layout.{planMax}
+use Rattle.checks.specs.Answers.{planChecked}
+use Rattle.checks.proofs.Checked.{plan-check, passed-check, stopped}
+use Rattle.plain.specs.Call.{plainAnswer}
 use Rattle.plain.proofs.plain_answer.Statement.{statement}
 use Rattle.plain.proofs.plain_answer.Tie as tie
 
-refused-requires : tie.Need-refused-requires
-refused-requires c κs = search needs
-
 returns : tie.Need-returns
 unfolding plainAnswer
-returns c = rw (lt-ltb _ _ (c .before .if1 .taken)) (c .refused .ensures)
-
-plan-first-bad-requires : tie.Need-plan-first-bad-requires
-plan-first-bad-requires c κs = search needs
-
-bad-at-requires : tie.Need-bad-at-requires
-bad-at-requires c κs = search needs
+returns c = stopped planMax planStep planChecked plan-check _ _ (c .before .before .check-plan .ensures) (c .if1 .taken) _
 
 returns-2 : tie.Need-returns-2
 unfolding plainAnswer
 returns-2 c =
-    let f = c .before .before .plan-first-bad .ensures in
-    rw (le-ltb _ _ (c .before .before .before .if1 .left), lt-ltb _ _ (rw f at (c .before .if2 .taken))) (rw f at (c .bad-at .ensures))
-
-refused-requires-2 : tie.Need-refused-requires-2
-refused-requires-2 c κs = search needs
+    let p = passed-check planMax planStep planChecked plan-check _ _ (c .before .before .before .before .check-plan .ensures) (c .before .before .if1 .left) in
+    c .refused .ensures ∙ sym (plan-check .next _ p _ ∙ rw (ne-eqb _ _ (c .before .if2 .taken)))
 
 returns-3 : tie.Need-returns-3
 unfolding plainAnswer
 returns-3 c =
-    let f = c .before .before .before .plan-first-bad .ensures in
-    rw (le-ltb _ _ (c .before .before .before .before .if1 .left), le-ltb _ _ (rw f at (c .before .before .if2 .left)), ne-eqb _ _ (c .before .if3 .taken)) (c .refused2 .ensures)
-
-done-requires : tie.Need-done-requires
-done-requires c κs = search needs
-
-returns-4 : tie.Need-returns-4
-unfolding plainAnswer
-returns-4 c =
-    let f = c .before .before .before .plan-first-bad .ensures in
-    rw (le-ltb _ _ (c .before .before .before .before .if1 .left), le-ltb _ _ (rw f at (c .before .before .if2 .left)), eq-eqb _ _ (c .before .if3 .left)) (c .done .ensures)
+    let p = passed-check planMax planStep planChecked plan-check _ _ (c .before .before .before .before .check-plan .ensures) (c .before .before .if1 .left) in
+    c .done .ensures ∙ sym (plan-check .next _ p _ ∙ rw (eq-eqb _ _ (c .before .if2 .left)))
 
 pub plain-answer-spec : {M : Type 1} → statement M
 plain-answer-spec =
     tie.close
     (tie.spec
-    refused-requires
+    (λ c κs. search needs)
     returns
-    plan-first-bad-requires
-    bad-at-requires
+    (λ c κs. search needs)
     returns-2
-    refused-requires-2
-    returns-3
-    done-requires
-    returns-4)
+    (λ c κs. search needs)
+    returns-3)

@@ -4,15 +4,6 @@ use borrow.Author.Needs.{needs}
 use Rattle.plain.proofs.plain_run.Statement.{statement}
 use Rattle.plain.proofs.plain_run.Tie as tie
 
-plain-answer-requires : tie.Need-plain-answer-requires
-plain-answer-requires c κs = search needs
-
-words-done-requires : tie.Need-words-done-requires
-words-done-requires c κs = search needs
-
-same-length : tie.Need-same-length
-same-length c = search needs
-
 returns : tie.Need-returns
 returns c =
     let e = c .before .before .before .before .before .before .plain-answer .ensures in
@@ -25,4 +16,9 @@ returns-2 c =
 
 pub plain-run-spec : {M : Type 1} → statement M
 plain-run-spec =
-    tie.close (tie.spec plain-answer-requires words-done-requires same-length returns returns-2)
+    tie.close (tie.spec
+    (λ c κs. search needs)
+    (λ c κs. search needs)
+    (λ c. search needs)
+    returns
+    returns-2)

@@ -21,21 +21,6 @@ abbrev μ-loop : tie.MeasureT-loop
 loop-holds : tie.Need-loop-holds Inv-loop μ-loop
 loop-holds c = (omega arith, refl, refl, refl)
 
-mul-word-done : tie.Need-mul-word-done Inv-loop μ-loop
-mul-word-done c = search needs
-
-shared-slice-read-word-done : tie.Need-shared-slice-read-word-done Inv-loop μ-loop
-shared-slice-read-word-done c = search needs
-
-word-done-requires : tie.Need-word-done-requires Inv-loop μ-loop
-word-done-requires c κs = search needs
-
-add-i : tie.Need-add-i Inv-loop μ-loop
-add-i c = search needs
-
-loop-less : tie.Need-loop-less Inv-loop μ-loop
-loop-less c = search needs
-
 loop-again : tie.Need-loop-again Inv-loop μ-loop
 loop-again c =
     let inv = c .before .before .before .before .before .before .loop .inv in
@@ -63,11 +48,11 @@ words-done-spec =
     Inv-loop
     μ-loop
     loop-holds
-    mul-word-done
-    shared-slice-read-word-done
-    word-done-requires
-    add-i
-    loop-less
+    (λ c. search needs)
+    (λ c. search needs)
+    (λ c κs. search needs)
+    (λ c. search needs)
+    (λ c. search needs)
     loop-again
     same-length
     returns)

@@ -1,7 +1,7 @@
 -- `sharelist::list` is safe and ends. The measure: the words that are left to list.
-use Rattle.listing.specs.Writing.{listedWords}
+use Rattle.listing.specs.Pieces.{listedWords}
 use Rattle.listing.proofs.Piecewise.{goes-on}
-use Rattle.listing.proofs.Placed.{as-long, counts}
+use Rattle.text.proofs.Placed.{as-long, counts}
 use lib.ListN.{length}
 use native.Mathlib.Omega.{arith}
 use Prim.Native.Nat.{_-_}

@@ -9,19 +9,10 @@ use Rattle.binary64.proofs.SumCases.{aligned-some, aligned-none}
 use Rattle.binary64.proofs.add.align.Statement.{statement}
 use Rattle.binary64.proofs.add.align.Tie as tie
 
-exponent-requires : tie.Need-exponent-requires
-exponent-requires c κs = search needs
-
 returns : tie.Need-returns
 returns c =
     let s = c .before .before in
     sym (aligned-none (s .args .d) (s .args .b) (sym (c .before .exponent .ensures) ∙ c .if1 .taken))
-
-significand-requires : tie.Need-significand-requires
-significand-requires c κs = search needs
-
-shift-jam-requires : tie.Need-shift-jam-requires
-shift-jam-requires c κs = search needs
 
 placed : (m F : ℕ) → F < 2 ^ 52 → m ≡ 2 ^ 52 + F → (m * 2 ^ 9) % 2 ^ 64 ≡ (2 ^ 52 + F) * 2 ^ 9
 placed m F h e = omega arith
@@ -36,4 +27,9 @@ returns-2 c =
     ∙ sym (aligned-some (s .args .d) b (λ h. e .if1 .left (e .before .exponent .ensures ∙ h)))
 
 pub align-spec : {M : Type 1} → statement M
-align-spec = tie.close (tie.spec exponent-requires returns significand-requires shift-jam-requires returns-2)
+align-spec = tie.close (tie.spec
+    (λ c κs. search needs)
+    returns
+    (λ c κs. search needs)
+    (λ c κs. search needs)
+    returns-2)

@@ -12,35 +12,11 @@ use Rattle.binary64.proofs.SumCases.{zeros-sum, like-signs, differ, can
 use Rattle.binary64.proofs.add.ordered.Statement.{statement}
 use Rattle.binary64.proofs.add.ordered.Tie as tie
 
-exponent-requires : tie.Need-exponent-requires
-exponent-requires c κs = search needs
-
-sign-bit-requires : tie.Need-sign-bit-requires
-sign-bit-requires c κs = search needs
-
 returns : tie.Need-returns
 returns c =
     let s = c .before .before .before in
     c .sign-bit .ensures
     ∙ sym (zeros-sum (s .args .a) (s .args .b) (s .pre) (s .fits .a .fits) (s .fits .b .fits) (sym (c .before .before .exponent .ensures) ∙ c .before .if1 .taken))
-
-significand-requires : tie.Need-significand-requires
-significand-requires c κs = search needs
-
-exponent-requires-2 : tie.Need-exponent-requires-2
-exponent-requires-2 c κs = search needs
-
-sub-align : tie.Need-sub-align
-sub-align c = search needs
-
-align-requires : tie.Need-align-requires
-align-requires c κs = search needs
-
-sign-bit-requires-2 : tie.Need-sign-bit-requires-2
-sign-bit-requires-2 c κs = search needs
-
-sign-bit-requires-3 : tie.Need-sign-bit-requires-3
-sign-bit-requires-3 c κs = search needs
 
 -- ---- once both signs are read: the two numbers to add or subtract, over the operands
 abbrev start : tie.After-sign-bit3 → tie.Start
@@ -158,15 +134,15 @@ pub ordered-spec : {M : Type 1} → statement M
 ordered-spec =
     tie.close
     (tie.spec
-    exponent-requires
-    sign-bit-requires
+    (λ c κs. search needs)
+    (λ c κs. search needs)
     returns
-    significand-requires
-    exponent-requires-2
-    sub-align
-    align-requires
-    sign-bit-requires-2
-    sign-bit-requires-3
+    (λ c κs. search needs)
+    (λ c κs. search needs)
+    (λ c. search needs)
+    (λ c κs. search needs)
+    (λ c κs. search needs)
+    (λ c κs. search needs)
     add-encode
     encode-requires
     returns-2

@@ -10,26 +10,14 @@ use Rattle.binary64.proofs.Jam.{jam-is, jam-all}
 use Rattle.binary64.proofs.add.shift_jam.Statement.{statement}
 use Rattle.binary64.proofs.add.shift_jam.Tie as tie
 
-shl-rest : tie.Need-shl-rest
-shl-rest c = search needs
-
 sub-rest : tie.Need-sub-rest
 sub-rest c = let d = c .before .args .d in subst (λ (x : ℕ). 1 ≤ x) (sym (one-shl d (c .if1 .taken))) (pow-pos d)
-
-shr-result : tie.Need-shr-result
-shr-result c = search needs
 
 mul-result : tie.Need-mul-result
 mul-result c = omega (arith, shr-le (c .before .args .w) (c .before .args .d))
 
-sticky-requires : tie.Need-sticky-requires
-sticky-requires c κs = search needs
-
 add-result : tie.Need-add-result
 add-result c = omega (arith, shr-le (c .before .before .args .w) (c .before .before .args .d))
-
-sticky-requires-2 : tie.Need-sticky-requires-2
-sticky-requires-2 c κs = search needs
 
 returns : tie.Need-returns
 returns c =
@@ -46,4 +34,13 @@ returns-2 c =
 
 pub shift-jam-spec : {M : Type 1} → statement M
 shift-jam-spec =
-    tie.close (tie.spec shl-rest sub-rest shr-result mul-result sticky-requires add-result sticky-requires-2 returns returns-2)
+    tie.close (tie.spec
+    (λ c. search needs)
+    sub-rest
+    (λ c. search needs)
+    mul-result
+    (λ c κs. search needs)
+    add-result
+    (λ c κs. search needs)
+    returns
+    returns-2)

@@ -44,9 +44,6 @@ add-rest c = omega (arith, mask-lt (middle (c .args .x) (c .args .y)) 19, mask-l
 mul-result : tie.Need-mul-result
 mul-result c = let b = known c in omega arith
 
-sticky-requires : tie.Need-sticky-requires
-sticky-requires c κs = search needs
-
 add-result : tie.Need-add-result
 add-result c = let b = known (c .before) in omega arith
 
@@ -71,6 +68,6 @@ jammed-product-spec =
     mul-rest
     add-rest
     mul-result
-    sticky-requires
+    (λ c κs. search needs)
     add-result
     returns)

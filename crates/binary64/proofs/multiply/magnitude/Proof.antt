@@ -12,12 +12,6 @@ use Rattle.binary64.proofs.ProductModel.{significands-lo, product-zero-
 use Rattle.binary64.proofs.multiply.magnitude.Statement.{statement}
 use Rattle.binary64.proofs.multiply.magnitude.Tie as tie
 
-exponent-requires : tie.Need-exponent-requires
-exponent-requires c κs = search needs
-
-exponent-requires-2 : tie.Need-exponent-requires-2
-exponent-requires-2 c κs = search needs
-
 returns : tie.Need-returns
 returns c =
     let s = c .before .before .before in
@@ -28,9 +22,6 @@ returns-2 c =
     let s = c .before .before .before .before in
     sym (product-zero-r (s .args .a) (s .args .b) (sym (c .before .before .exponent2 .ensures) ∙ c .if2 .taken))
 
-add-e : tie.Need-add-e
-add-e c = search needs
-
 returns-3 : tie.Need-returns-3
 returns-3 c =
     let e2 = c .before .before .before in
@@ -39,15 +30,6 @@ returns-3 c =
     let eb = e2 .exponent2 .ensures in
     let less = c .if3 .taken in
     sym (product-tiny (s .args .a) (s .args .b) (λ h. c .before .before .if1 .left (ea ∙ h)) (λ h. c .before .if2 .left (eb ∙ h)) (omega arith))
-
-significand-requires : tie.Need-significand-requires
-significand-requires c κs = search needs
-
-significand-requires-2 : tie.Need-significand-requires-2
-significand-requires-2 c κs = search needs
-
-jammed-product-requires : tie.Need-jammed-product-requires
-jammed-product-requires c κs = search needs
 
 -- the jammed product, over the operands
 jammed : (c : tie.After-jammed-product) →
@@ -78,14 +60,14 @@ pub magnitude-spec : {M : Type 1} → statement M
 magnitude-spec =
     tie.close
     (tie.spec
-    exponent-requires
-    exponent-requires-2
+    (λ c κs. search needs)
+    (λ c κs. search needs)
     returns
     returns-2
-    add-e
+    (λ c. search needs)
     returns-3
-    significand-requires
-    significand-requires-2
-    jammed-product-requires
+    (λ c κs. search needs)
+    (λ c κs. search needs)
+    (λ c κs. search needs)
     encode-requires
     returns-4)

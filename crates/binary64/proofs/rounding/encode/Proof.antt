@@ -17,14 +17,8 @@ use Rattle.binary64.proofs.rounding.encode.Tie as tie
 cast-places : tie.Need-cast-places
 cast-places c = fits-below tt (leading-le 64 (c .args .z))
 
-cast-nearest : tie.Need-cast-nearest
-cast-nearest c = search needs
-
 shl-nearest : tie.Need-shl-nearest
 shl-nearest c = let t = leading-top 64 (c .before .args .z) (c .before .pre) (c .before .fits .z .fits) in omega (arith, t .1)
-
-nearest-requires : tie.Need-nearest-requires
-nearest-requires c κs = search needs
 
 -- the shifted word, uncut
 shifted : (z : ℕ) → 0 < z → z < 2 ^ 64 → (z * 2 ^ leadingZeros 64 z) % 2 ^ 64 ≡ z * 2 ^ leadingZeros 64 z
@@ -61,4 +55,11 @@ returns-2 c =
 
 pub encode-spec : {M : Type 1} → statement M
 encode-spec =
-    tie.close (tie.spec cast-places cast-nearest shl-nearest nearest-requires pack-requires returns returns-2)
+    tie.close (tie.spec
+    cast-places
+    (λ c. search needs)
+    shl-nearest
+    (λ c κs. search needs)
+    pack-requires
+    returns
+    returns-2)

@@ -5,14 +5,11 @@ use borrow.Author.Needs.{needs}
 use Rattle.binary64.proofs.whole.clear.Statement.{statement}
 use Rattle.binary64.proofs.whole.clear.Tie as tie
 
-shr-result : tie.Need-shr-result
-shr-result c = search needs
-
-shl-result : tie.Need-shl-result
-shl-result c = search needs
-
 returns : tie.Need-returns
 returns c = mod-eq-of-lt (lt-of-le-of-lt (div-mul-le-self (c .args .x) (2 ^ c .args .k)) (c .fits .x .fits))
 
 pub clear-spec : {M : Type 1} → statement M
-clear-spec = tie.close (tie.spec shr-result shl-result returns)
+clear-spec = tie.close (tie.spec
+    (λ c. search needs)
+    (λ c. search needs)
+    returns)

@@ -8,17 +8,11 @@ use Rattle.binary64.proofs.Words.{one-shl}
 use Rattle.binary64.proofs.whole.raise.Statement.{statement}
 use Rattle.binary64.proofs.whole.raise.Tie as tie
 
-shl-mask : tie.Need-shl-mask
-shl-mask c = search needs
-
 sub-mask : tie.Need-sub-mask
 sub-mask c = let k = c .args .k in subst (λ (x : ℕ). 1 ≤ x) (sym (one-shl k (c .pre .1))) (pow-pos k)
 
 add-clear : tie.Need-add-clear
 add-clear c = omega (arith, one-shl (c .args .k) (c .pre .1))
-
-clear-requires : tie.Need-clear-requires
-clear-requires c κs = search needs
 
 returns : tie.Need-returns
 returns c =
@@ -27,4 +21,9 @@ returns c =
     c .clear .ensures ∙ ap (λ (z : ℕ). (x + (z - 1)) / 2 ^ k * 2 ^ k) (one-shl k (c .before .pre .1))
 
 pub raise-spec : {M : Type 1} → statement M
-raise-spec = tie.close (tie.spec shl-mask sub-mask add-clear clear-requires returns)
+raise-spec = tie.close (tie.spec
+    (λ c. search needs)
+    sub-mask
+    add-clear
+    (λ c κs. search needs)
+    returns)

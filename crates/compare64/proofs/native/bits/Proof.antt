@@ -8,9 +8,6 @@ use lib.Ieee.Compare.{nan-differs}
 use Rattle.compare64.proofs.native.bits.Statement.{statement}
 use Rattle.compare64.proofs.native.bits.Tie as tie
 
-returns : tie.Need-returns
-returns c = search needs
-
 no-nan : (x : Float) → ne x x ≡ false → T (not (isNan x))
 unfolding isNan
 no-nan nan h = subst T h (subst T (sym nan-differs) tt)
@@ -20,8 +17,8 @@ no-nan (fin s m e) h = tt
 float-to-bits-result : tie.Need-float-to-bits-result
 float-to-bits-result c = no-nan (c .before .args .x) (c .if1 .left)
 
-returns-2 : tie.Need-returns-2
-returns-2 c = search needs
-
 pub bits-spec : {M : Type 1} → statement M
-bits-spec = tie.close (tie.spec returns float-to-bits-result returns-2)
+bits-spec = tie.close (tie.spec
+    (λ c. search needs)
+    float-to-bits-result
+    (λ c. search needs))

@@ -11,9 +11,6 @@ use lib.Ieee.Bits.{nanBits-above}
 use Rattle.compare64.proofs.native.number.Statement.{statement}
 use Rattle.compare64.proofs.native.number.Tie as tie
 
-returns : tie.Need-returns
-returns c = search needs
-
 no-nan : (a : ℕ) → a % 2 ^ 63 ≤ 0x7ff0000000000000 → T (not (nanBits binary64 a))
 no-nan a h = subst (λ (b : Bool). T (not b)) (sym (nanBits-above binary64 a ∙ le-ltb 0x7ff0000000000000 (a % 2 ^ 63) h)) tt
 
@@ -22,8 +19,8 @@ float-from-bits-result c =
     let a = c .before .args .a in
     no-nan a (subst (λ (x : ℕ). x ≤ 0x7ff0000000000000) (and-mask a 63) (c .if1 .left))
 
-returns-2 : tie.Need-returns-2
-returns-2 c = search needs
-
 pub number-spec : {M : Type 1} → statement M
-number-spec = tie.close (tie.spec returns float-from-bits-result returns-2)
+number-spec = tie.close (tie.spec
+    (λ c. search needs)
+    float-from-bits-result
+    (λ c. search needs))

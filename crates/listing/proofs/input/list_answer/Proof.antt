@@ -6,54 +6,27 @@ use lib.ListN.{getD}
 use lib.Seq.{length-take-le}
 use borrow.Author.Needs.{needs}
 use borrow.Author.Tests.{not-true, not-false}
-use Rattle.shares.specs.Calls.{measureAnswer}
-use Rattle.listing.proofs.Placed.{within, as-long, all-taken}
+use Rattle.translation.specs.Calls.{measureAnswer}
+use Rattle.text.proofs.Placed.{within, as-long, all-taken}
 use Rattle.listing.proofs.Words.{plan-count}
 use Rattle.listing.proofs.Answered.{no-byte, bad-count, too-long, broken, measured-then}
 use Rattle.listing.proofs.input.list_answer.Statement.{statement}
 use Rattle.listing.proofs.input.list_answer.Tie as tie
 
-refused-requires : tie.Need-refused-requires
-refused-requires c κs = search needs
-
 returns : tie.Need-returns
 returns c = c .refused .ensures ∙ sym (no-byte _ (c .before .if1 .taken))
-
-shared-slice-read-n : tie.Need-shared-slice-read-n
-shared-slice-read-n c = search needs
 
 cast-n : tie.Need-cast-n
 cast-n c = omega (arith, c .shared-slice-known2 .given 0)
 
-is-share-count-requires : tie.Need-is-share-count-requires
-is-share-count-requires c κs = search needs
-
-refused-requires-2 : tie.Need-refused-requires-2
-refused-requires-2 c κs = search needs
-
 returns-2 : tie.Need-returns-2
 returns-2 c = c .refused2 .ensures ∙ sym (bad-count (now (c .before .before .before .before .before .before .args .input)) (omega arith) (sym (c .before .before .is-share-count .ensures) ∙ not-true _ (c .before .if2 .taken)))
-
-sub-bytes : tie.Need-sub-bytes
-sub-bytes c = search needs
-
-refused-requires-3 : tie.Need-refused-requires-3
-refused-requires-3 c κs = search needs
 
 returns-3 : tie.Need-returns-3
 returns-3 c = c .refused3 .ensures ∙ sym (too-long (now (c .before .before .before .before .before .before .before .args .input)) (omega arith) (sym (c .before .before .before .is-share-count .ensures) ∙ not-false _ (c .before .before .if2 .left)) (c .before .if3 .taken))
 
-refused-requires-4 : tie.Need-refused-requires-4
-refused-requires-4 c κs = search needs
-
 returns-4 : tie.Need-returns-4
 returns-4 c = c .refused4 .ensures ∙ sym (broken (now (c .before .before .before .before .before .before .before .before .args .input)) (omega arith) (sym (c .before .before .before .before .is-share-count .ensures) ∙ not-false _ (c .before .before .before .if2 .left)) (omega arith) (c .before .if4 .taken))
-
-slice-aggregate-plan-words : tie.Need-slice-aggregate-plan-words
-slice-aggregate-plan-words c = search needs
-
-plan-words-requires : tie.Need-plan-words-requires
-plan-words-requires c κs = search needs
 
 array-share-prefix-plan : tie.Need-array-share-prefix-plan
 array-share-prefix-plan c =
@@ -64,9 +37,6 @@ slice-aggregate-measure : tie.Need-slice-aggregate-measure
 slice-aggregate-measure c =
     let w = c .before .before .plan-words .ensures in
     sym (length-take-le _ _ (omega (arith, within w, as-long w)))
-
-measure-requires : tie.Need-measure-requires
-measure-requires c κs = search needs
 
 returns-5 : tie.Need-returns-5
 returns-5 c =
@@ -80,21 +50,21 @@ pub list-answer-spec : {M : Type 1} → statement M
 list-answer-spec =
     tie.close
     (tie.spec
-    refused-requires
+    (λ c κs. search needs)
     returns
-    shared-slice-read-n
+    (λ c. search needs)
     cast-n
-    is-share-count-requires
-    refused-requires-2
+    (λ c κs. search needs)
+    (λ c κs. search needs)
     returns-2
-    sub-bytes
-    refused-requires-3
+    (λ c. search needs)
+    (λ c κs. search needs)
     returns-3
-    refused-requires-4
+    (λ c κs. search needs)
     returns-4
-    slice-aggregate-plan-words
-    plan-words-requires
+    (λ c. search needs)
+    (λ c κs. search needs)
     array-share-prefix-plan
     slice-aggregate-measure
-    measure-requires
+    (λ c κs. search needs)
     returns-5)

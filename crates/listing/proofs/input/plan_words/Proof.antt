@@ -1,7 +1,7 @@
 -- `listing::input::plan_words` meets its contract.
 use Rattle.listing.proofs.Words.{words-on, words-done, plan-behind, plan-count, words-short}
-use Rattle.listing.proofs.Placed.{Left, start, renamed, wrote, wrote-none, wrote-empty}
-use Rattle.listing.specs.Listing.{wordsOf, planOf}
+use Rattle.text.proofs.Placed.{Left, start, renamed, wrote, wrote-none, wrote-empty}
+use Rattle.listing.specs.Sharelist.{wordsOf, planOf}
 use borrow.Author.Needs.{needs}
 use denote.Ref.{now}
 use lib.ListN.{length, drop, length-drop}
@@ -20,56 +20,17 @@ abbrev μ-loop : tie.MeasureT-loop
 returns : tie.Need-returns Inv-loop μ-loop
 returns c = wrote-empty _ (plan-behind (now (c .before .before .before .args .input)) ∙ words-short (drop 1 (now (c .before .before .before .args .input))) (omega (arith, length-drop 1 (now (c .before .before .before .args .input)))))
 
-sub-count : tie.Need-sub-count Inv-loop μ-loop
-sub-count c = search needs
-
 returns-2 : tie.Need-returns-2 Inv-loop μ-loop
 returns-2 c = wrote-none _ _ (omega (arith, plan-count (now (c .before .before .before .before .args .input))))
 
 loop-holds : tie.Need-loop-holds Inv-loop μ-loop
 loop-holds c = (omega arith, refl, omega arith, renamed (plan-behind (c .before .before .before .before .args .input .now)) (start _ _ _))
 
-mul-at : tie.Need-mul-at Inv-loop μ-loop
-mul-at c = search needs
-
-add-at : tie.Need-add-at Inv-loop μ-loop
-add-at c = search needs
-
-shared-slice-read-word-of : tie.Need-shared-slice-read-word-of Inv-loop μ-loop
-shared-slice-read-word-of c = search needs
-
-add-word-of : tie.Need-add-word-of Inv-loop μ-loop
-add-word-of c = search needs
-
-shared-slice-read-word-of-2 : tie.Need-shared-slice-read-word-of-2 Inv-loop μ-loop
-shared-slice-read-word-of-2 c = search needs
-
-add-word-of-2 : tie.Need-add-word-of-2 Inv-loop μ-loop
-add-word-of-2 c = search needs
-
-shared-slice-read-word-of-3 : tie.Need-shared-slice-read-word-of-3 Inv-loop μ-loop
-shared-slice-read-word-of-3 c = search needs
-
-add-word-of-3 : tie.Need-add-word-of-3 Inv-loop μ-loop
-add-word-of-3 c = search needs
-
-shared-slice-read-word-of-4 : tie.Need-shared-slice-read-word-of-4 Inv-loop μ-loop
-shared-slice-read-word-of-4 c = search needs
-
-word-of-requires : tie.Need-word-of-requires Inv-loop μ-loop
-word-of-requires c κs = search needs
-
 mul-plan : tie.Need-mul-plan Inv-loop μ-loop
 mul-plan c = omega (arith, c .before .before .before .before .before .before .loop .inv .3 .long, c .before .before .before .before .before .before .before .before .before .before .before .good)
 
 slice-write-plan : tie.Need-slice-write-plan Inv-loop μ-loop
 slice-write-plan c = omega (arith, c .before .before .before .before .before .before .loop .inv .3 .long)
-
-add-i : tie.Need-add-i Inv-loop μ-loop
-add-i c = search needs
-
-loop-less : tie.Need-loop-less Inv-loop μ-loop
-loop-less c = search needs
 
 loop-again : tie.Need-loop-again Inv-loop μ-loop
 loop-again c = (
@@ -96,23 +57,23 @@ plan-words-spec =
     Inv-loop
     μ-loop
     returns
-    sub-count
+    (λ c. search needs)
     returns-2
     loop-holds
-    mul-at
-    add-at
-    shared-slice-read-word-of
-    add-word-of
-    shared-slice-read-word-of-2
-    add-word-of-2
-    shared-slice-read-word-of-3
-    add-word-of-3
-    shared-slice-read-word-of-4
-    word-of-requires
+    (λ c. search needs)
+    (λ c. search needs)
+    (λ c. search needs)
+    (λ c. search needs)
+    (λ c. search needs)
+    (λ c. search needs)
+    (λ c. search needs)
+    (λ c. search needs)
+    (λ c. search needs)
+    (λ c κs. search needs)
     mul-plan
     slice-write-plan
-    add-i
-    loop-less
+    (λ c. search needs)
+    (λ c. search needs)
     loop-again
     same-length
     returns-3)

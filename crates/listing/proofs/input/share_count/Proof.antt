@@ -8,9 +8,6 @@ use borrow.Author.Needs.{needs}
 use Rattle.listing.proofs.input.share_count.Statement.{statement}
 use Rattle.listing.proofs.input.share_count.Tie as tie
 
-shared-slice-read-result : tie.Need-shared-slice-read-result
-shared-slice-read-result c = search needs
-
 cast-result : tie.Need-cast-result
 cast-result c = omega (arith, c .shared-slice-known .given 0)
 
@@ -21,4 +18,8 @@ returns-2 : tie.Need-returns-2
 returns-2 c = count-first (now (c .before .before .args .input))
 
 pub share-count-spec : {M : Type 1} → statement M
-share-count-spec = tie.close (tie.spec shared-slice-read-result cast-result returns returns-2)
+share-count-spec = tie.close (tie.spec
+    (λ c. search needs)
+    cast-result
+    returns
+    returns-2)

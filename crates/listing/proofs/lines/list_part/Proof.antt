@@ -2,7 +2,7 @@
 use borrow.Author.Tests.{leb-true, leb-false}
 use Rattle.listing.proofs.Parts.{Going, going, going-on, gone-all, gone-full, in-part}
 use Rattle.listing.proofs.PlanWord.{lines-most}
-use Rattle.listing.specs.Writing.{wordLines}
+use Rattle.listing.specs.Pieces.{wordLines}
 use borrow.Author.Needs.{needs}
 use lib.ListN.{length, getD}
 use denote.Ref.{now}
@@ -23,23 +23,11 @@ loop-holds c = going _ _ _ _
 sub-if1 : tie.Need-sub-if1 Inv-loop μ-loop
 sub-if1 c = c .before .loop .inv .within
 
-mul-word-lines : tie.Need-mul-word-lines Inv-loop μ-loop
-mul-word-lines c = search needs
-
-shared-slice-read-word-lines : tie.Need-shared-slice-read-word-lines Inv-loop μ-loop
-shared-slice-read-word-lines c = search needs
-
 sub-word-lines : tie.Need-sub-word-lines Inv-loop μ-loop
 sub-word-lines c = c .before .before .before .loop .inv .within
 
 part-word-lines-start : tie.Need-part-word-lines-start Inv-loop μ-loop
 part-word-lines-start c = c .before .before .before .loop .inv .within
-
-part-word-lines-end : tie.Need-part-word-lines-end Inv-loop μ-loop
-part-word-lines-end c = search needs
-
-word-lines-requires : tie.Need-word-lines-requires Inv-loop μ-loop
-word-lines-requires c κs = search needs
 
 add-at : tie.Need-add-at Inv-loop μ-loop
 add-at c =
@@ -49,12 +37,6 @@ add-at c =
     let at = c .before .before .before .before .before .before .before .loop .at in
     let a = in-part (wordLines (c .before .before .before .before .before .before .before .before .before .before .args .n) w) out at (c .before .before .before .before .before .before .before .loop .inv .within) (omega (arith, leb-true, lines-most (c .before .before .before .before .before .before .before .before .before .before .args .n) w)) (c .before .before .word-lines .ensures) in
     omega (arith, a .ends, lines-most (c .before .before .before .before .before .before .before .before .before .before .args .n) w, c .before .before .before .before .before .before .before .loop .inv .left .long, c .before .before .before .before .before .before .before .before .before .before .good)
-
-add-next : tie.Need-add-next Inv-loop μ-loop
-add-next c = search needs
-
-loop-less : tie.Need-loop-less Inv-loop μ-loop
-loop-less c = search needs
 
 loop-again : tie.Need-loop-again Inv-loop μ-loop
 loop-again c =
@@ -85,15 +67,15 @@ list-part-spec =
     μ-loop
     loop-holds
     sub-if1
-    mul-word-lines
-    shared-slice-read-word-lines
+    (λ c. search needs)
+    (λ c. search needs)
     sub-word-lines
     part-word-lines-start
-    part-word-lines-end
-    word-lines-requires
+    (λ c. search needs)
+    (λ c κs. search needs)
     add-at
-    add-next
-    loop-less
+    (λ c. search needs)
+    (λ c. search needs)
     loop-again
     same-length
     returns

@@ -1,31 +1,16 @@
 -- `listing::pieces::list_piece` meets its contract.
 use Rattle.listing.proofs.Parts.{part-ends}
 use Rattle.listing.proofs.Piecewise.{listed-most, first-piece, next-piece}
-use Rattle.listing.proofs.Placed.{counts, all-given, all-taken}
+use Rattle.text.proofs.Placed.{counts, all-given, all-taken}
 use native.Mathlib.Omega.{arith}
 use borrow.Author.Needs.{needs}
 use Rattle.listing.proofs.pieces.list_piece.Statement.{statement}
 use Rattle.listing.proofs.pieces.list_piece.Tie as tie
 
-slice-aggregate-listed-words : tie.Need-slice-aggregate-listed-words
-slice-aggregate-listed-words c = search needs
-
-listed-words-requires : tie.Need-listed-words-requires
-listed-words-requires c κs = search needs
-
-head-requires : tie.Need-head-requires
-head-requires c κs = search needs
-
-same-length : tie.Need-same-length
-same-length c = search needs
-
 returns : tie.Need-returns
 returns c =
     let w = c .before .before .before .before .before .before .listed-words .ensures in
     first-piece (c .before .before .before .before .if1 .taken) (all-given w (listed-most _)) (c .before .before .head .ensures)
-
-share-count-requires : tie.Need-share-count-requires
-share-count-requires c κs = search needs
 
 array-share-prefix-plan : tie.Need-array-share-prefix-plan
 array-share-prefix-plan c = counts (c .before .before .before .listed-words .ensures) .0
@@ -33,21 +18,12 @@ array-share-prefix-plan c = counts (c .before .before .before .listed-words .ens
 slice-aggregate-list-part : tie.Need-slice-aggregate-list-part
 slice-aggregate-list-part c = counts (c .before .before .before .before .listed-words .ensures) .1
 
-sub-list-part : tie.Need-sub-list-part
-sub-list-part c = search needs
-
-list-part-requires : tie.Need-list-part-requires
-list-part-requires c κs = search needs
-
 add-t14 : tie.Need-add-t14
 add-t14 c =
     let w = c .before .before .before .before .before .before .before .before .before .listed-words .ensures in
     let p = c .before .before .before .list-part .ensures in
     let h = listed-most _ in
     omega (arith, part-ends p, counts w .1, all-given w h, h)
-
-same-length-2 : tie.Need-same-length-2
-same-length-2 c = search needs
 
 returns-2 : tie.Need-returns-2
 returns-2 c =
@@ -60,16 +36,16 @@ pub list-piece-spec : {M : Type 1} → statement M
 list-piece-spec =
     tie.close
     (tie.spec
-    slice-aggregate-listed-words
-    listed-words-requires
-    head-requires
-    same-length
+    (λ c. search needs)
+    (λ c κs. search needs)
+    (λ c κs. search needs)
+    (λ c. search needs)
     returns
-    share-count-requires
+    (λ c κs. search needs)
     array-share-prefix-plan
     slice-aggregate-list-part
-    sub-list-part
-    list-part-requires
+    (λ c. search needs)
+    (λ c κs. search needs)
     add-t14
-    same-length-2
+    (λ c. search needs)
     returns-2)

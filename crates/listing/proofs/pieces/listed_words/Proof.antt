@@ -1,23 +1,14 @@
 -- `listing::pieces::listed_words` meets its contract.
 use Rattle.listing.proofs.Piecewise.{listed-taken, listed-none}
-use Rattle.listing.proofs.Placed.{wrote-empty}
+use Rattle.text.proofs.Placed.{wrote-empty}
 use borrow.Author.Needs.{needs}
 use Rattle.listing.proofs.pieces.listed_words.Statement.{statement}
 use Rattle.listing.proofs.pieces.listed_words.Tie as tie
-
-list-answer-requires : tie.Need-list-answer-requires
-list-answer-requires c κs = search needs
 
 returns : tie.Need-returns
 returns c =
     let e = c .before .before .list-answer .ensures in
     wrote-empty _ (listed-none _ (rw e at (c .if1 .taken)))
-
-plan-words-requires : tie.Need-plan-words-requires
-plan-words-requires c κs = search needs
-
-same-length : tie.Need-same-length
-same-length c = search needs
 
 returns-2 : tie.Need-returns-2
 returns-2 c =
@@ -26,4 +17,9 @@ returns-2 c =
 
 pub listed-words-spec : {M : Type 1} → statement M
 listed-words-spec =
-    tie.close (tie.spec list-answer-requires returns plan-words-requires same-length returns-2)
+    tie.close (tie.spec
+    (λ c κs. search needs)
+    returns
+    (λ c κs. search needs)
+    (λ c. search needs)
+    returns-2)

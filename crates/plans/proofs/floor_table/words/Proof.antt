@@ -1,6 +1,6 @@
 -- `plans::floor_table::words` meets its contract: the table is the plan's words, by computation.
 use mathlib.Core.Path.{refl}
-use Rattle.word.specs.Word.{put}
+use Rattle.word.specs.Encoding.{put}
 use Rattle.plans.specs.FloorPlan.{floorPlan}
 use Rattle.plans.proofs.floor_table.words.Statement.{statement}
 use Rattle.plans.proofs.floor_table.words.Tie as tie

@@ -1,6 +1,6 @@
 -- `plans::product_table::words` meets its contract: the table is the plan's words, by computation.
 use mathlib.Core.Path.{refl}
-use Rattle.word.specs.Word.{put}
+use Rattle.word.specs.Encoding.{put}
 use Rattle.plans.specs.ProductPlan.{productPlan, productHead, carryRow, productRow, productRows, withExponents, highHalf, normalise, sticky, tests, roundPack, choose, productEnd, productTail, productSteps}
 use Rattle.plans.proofs.product_table.words.Statement.{statement}
 use Rattle.plans.proofs.product_table.words.Tie as tie

@@ -1,6 +1,6 @@
 -- `plans::sum_table::words` meets its contract: the table is the plan's words, by computation.
 use mathlib.Core.Path.{refl}
-use Rattle.word.specs.Word.{put}
+use Rattle.word.specs.Encoding.{put}
 use Rattle.plans.specs.SumPlan.{sumPlan, orderSteps, significandSteps, shiftRight, smallShifts, shiftKeeping, largeShifts, lostSteps, alignTests, alignSteps, addSteps, smearStage, smearSteps, shiftLeft, normaliseSteps, exponentSteps, resultTests, roundSteps, chooseSteps, alignPart, normalPart, resultPart, sumSteps}
 use Rattle.plans.proofs.sum_table.words.Statement.{statement}
 use Rattle.plans.proofs.sum_table.words.Tie as tie

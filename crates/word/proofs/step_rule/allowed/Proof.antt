@@ -3,12 +3,6 @@ use borrow.Author.Needs.{needs}
 use Rattle.word.proofs.step_rule.allowed.Statement.{statement}
 use Rattle.word.proofs.step_rule.allowed.Tie as tie
 
-in-program-requires : tie.Need-in-program-requires
-in-program-requires c κs = search needs
-
-in-plan-requires : tie.Need-in-plan-requires
-in-plan-requires c κs = search needs
-
 returns : tie.Need-returns
 returns c = rw (c .before .if1 .taken) (c .in-program .ensures)
 
@@ -16,4 +10,8 @@ returns-2 : tie.Need-returns-2
 returns-2 c = rw (c .before .if1 .left) (c .in-plan .ensures)
 
 pub allowed-spec : {M : Type 1} → statement M
-allowed-spec = tie.close (tie.spec in-program-requires in-plan-requires returns returns-2)
+allowed-spec = tie.close (tie.spec
+    (λ c κs. search needs)
+    (λ c κs. search needs)
+    returns
+    returns-2)

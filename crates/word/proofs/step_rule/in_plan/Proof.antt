@@ -4,12 +4,6 @@ use borrow.Author.Needs.{needs}
 use Rattle.word.proofs.step_rule.in_plan.Statement.{statement}
 use Rattle.word.proofs.step_rule.in_plan.Tie as tie
 
-kind-number-requires : tie.Need-kind-number-requires
-kind-number-requires c κs = search needs
-
-within-requires : tie.Need-within-requires
-within-requires c κs = search needs
-
 returns : tie.Need-returns
 returns c = rw (← (c .before .kind-number .ensures), c .if1 .taken)
 
@@ -18,4 +12,8 @@ returns-2 c =
     rw (← (c .before .before .kind-number .ensures), ne-eqb _ 9 (c .before .if1 .left)) (c .within .ensures)
 
 pub in-plan-spec : {M : Type 1} → statement M
-in-plan-spec = tie.close (tie.spec kind-number-requires within-requires returns returns-2)
+in-plan-spec = tie.close (tie.spec
+    (λ c κs. search needs)
+    (λ c κs. search needs)
+    returns
+    returns-2)

@@ -1,15 +1,9 @@
 -- `word::step_rule::row` meets its contract.
 use borrow.Author.Tests.{ne-eqb}
-use Rattle.word.specs.Word as spec
+use Rattle.word.specs.Encoding as spec
 use borrow.Author.Needs.{needs}
 use Rattle.word.proofs.step_rule.row.Statement.{statement}
 use Rattle.word.proofs.step_rule.row.Tie as tie
-
-mul-t7 : tie.Need-mul-t7
-mul-t7 c = search needs
-
-add-t9 : tie.Need-add-t9
-add-t9 c = search needs
 
 returns : tie.Need-returns
 unfolding spec.row
@@ -74,8 +68,8 @@ pub row-spec : {M : Type 1} → statement M
 row-spec =
     tie.close
     (tie.spec
-    mul-t7
-    add-t9
+    (λ c. search needs)
+    (λ c. search needs)
     returns
     returns-2
     returns-3

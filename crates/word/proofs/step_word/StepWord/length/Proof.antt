@@ -13,9 +13,6 @@ mul-result c = omega (arith, square-lt (c .before .args .n) (omega arith))
 mul-result-2 : tie.Need-mul-result-2
 mul-result-2 c = omega (arith, square-lt (c .before .args .n) (omega arith))
 
-mul-result-3 : tie.Need-mul-result-3
-mul-result-3 c = search needs
-
 sub-result : tie.Need-sub-result
 sub-result c = omega (arith, le-square (c .before .args .n))
 
@@ -24,9 +21,6 @@ mul-result-4 c = omega (arith, square-lt (c .before .args .n) (omega arith))
 
 mul-result-5 : tie.Need-mul-result-5
 mul-result-5 c = omega (arith, square-lt (c .before .args .n) (omega arith))
-
-mul-result-6 : tie.Need-mul-result-6
-mul-result-6 c = search needs
 
 sub-result-2 : tie.Need-sub-result-2
 sub-result-2 c = omega (arith, le-square (c .before .args .n))
@@ -49,11 +43,11 @@ length-spec =
     (tie.spec
     mul-result
     mul-result-2
-    mul-result-3
+    (λ c. search needs)
     sub-result
     mul-result-4
     mul-result-5
-    mul-result-6
+    (λ c. search needs)
     sub-result-2
     returns
     returns-2

@@ -1,28 +1,10 @@
 -- `word::step_word::StepWord::named` meets its contract.
 use borrow.Author.Tests.{ne-eqb}
 use mathlib.Core.Path.{_≡_, sym, _∙_}
-use Rattle.word.specs.Word.{named, bit27}
+use Rattle.word.specs.Encoding.{named, bit27}
 use borrow.Author.Needs.{needs}
 use Rattle.word.proofs.step_word.StepWord.named.Statement.{statement}
 use Rattle.word.proofs.step_word.StepWord.named.Tie as tie
-
-zero-bit-requires : tie.Need-zero-bit-requires
-zero-bit-requires c κs = search needs
-
-kind-requires : tie.Need-kind-requires
-kind-requires c κs = search needs
-
-d-requires : tie.Need-d-requires
-d-requires c κs = search needs
-
-a-requires : tie.Need-a-requires
-a-requires c κs = search needs
-
-b-requires : tie.Need-b-requires
-b-requires c κs = search needs
-
-row-requires : tie.Need-row-requires
-row-requires c κs = search needs
 
 returns : tie.Need-returns
 unfolding named
@@ -39,11 +21,11 @@ pub named-spec : {M : Type 1} → statement M
 named-spec =
     tie.close
     (tie.spec
-    zero-bit-requires
-    kind-requires
-    d-requires
-    a-requires
-    b-requires
-    row-requires
+    (λ c κs. search needs)
+    (λ c κs. search needs)
+    (λ c κs. search needs)
+    (λ c κs. search needs)
+    (λ c κs. search needs)
+    (λ c κs. search needs)
     returns
     returns-2)

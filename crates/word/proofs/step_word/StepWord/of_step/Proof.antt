@@ -5,66 +5,6 @@ use borrow.Author.Needs.{needs}
 use Rattle.word.proofs.step_word.StepWord.of_step.Statement.{statement}
 use Rattle.word.proofs.step_word.StepWord.of_step.Tie as tie
 
-enum-known-s : tie.Need-enum-known-s
-enum-known-s c = search needs
-
-cast-put : tie.Need-cast-put
-cast-put c = search needs
-
-cast-put-2 : tie.Need-cast-put-2
-cast-put-2 c = search needs
-
-put-requires : tie.Need-put-requires
-put-requires c κs = search needs
-
-enum-known-s-2 : tie.Need-enum-known-s-2
-enum-known-s-2 c = search needs
-
-put-requires-2 : tie.Need-put-requires-2
-put-requires-2 c κs = search needs
-
-enum-known-s-3 : tie.Need-enum-known-s-3
-enum-known-s-3 c = search needs
-
-put-requires-3 : tie.Need-put-requires-3
-put-requires-3 c κs = search needs
-
-enum-known-s-4 : tie.Need-enum-known-s-4
-enum-known-s-4 c = search needs
-
-put-requires-4 : tie.Need-put-requires-4
-put-requires-4 c κs = search needs
-
-enum-known-s-5 : tie.Need-enum-known-s-5
-enum-known-s-5 c = search needs
-
-put-requires-5 : tie.Need-put-requires-5
-put-requires-5 c κs = search needs
-
-enum-known-s-6 : tie.Need-enum-known-s-6
-enum-known-s-6 c = search needs
-
-put-requires-6 : tie.Need-put-requires-6
-put-requires-6 c κs = search needs
-
-enum-known-s-7 : tie.Need-enum-known-s-7
-enum-known-s-7 c = search needs
-
-put-requires-7 : tie.Need-put-requires-7
-put-requires-7 c κs = search needs
-
-enum-known-s-8 : tie.Need-enum-known-s-8
-enum-known-s-8 c = search needs
-
-put-requires-8 : tie.Need-put-requires-8
-put-requires-8 c κs = search needs
-
-enum-known-s-9 : tie.Need-enum-known-s-9
-enum-known-s-9 c = search needs
-
-put-requires-9 : tie.Need-put-requires-9
-put-requires-9 c κs = search needs
-
 returns : tie.Need-returns
 returns c = rw (c .before .before .s .given .1) (c .put .ensures ∙ put-fields 1 _ _ _)
 
@@ -96,26 +36,26 @@ pub of-step-spec : {M : Type 1} → statement M
 of-step-spec =
     tie.close
     (tie.spec
-    enum-known-s
-    cast-put
-    cast-put-2
-    put-requires
-    enum-known-s-2
-    put-requires-2
-    enum-known-s-3
-    put-requires-3
-    enum-known-s-4
-    put-requires-4
-    enum-known-s-5
-    put-requires-5
-    enum-known-s-6
-    put-requires-6
-    enum-known-s-7
-    put-requires-7
-    enum-known-s-8
-    put-requires-8
-    enum-known-s-9
-    put-requires-9
+    (λ c. search needs)
+    (λ c. search needs)
+    (λ c. search needs)
+    (λ c κs. search needs)
+    (λ c. search needs)
+    (λ c κs. search needs)
+    (λ c. search needs)
+    (λ c κs. search needs)
+    (λ c. search needs)
+    (λ c κs. search needs)
+    (λ c. search needs)
+    (λ c κs. search needs)
+    (λ c. search needs)
+    (λ c κs. search needs)
+    (λ c. search needs)
+    (λ c κs. search needs)
+    (λ c. search needs)
+    (λ c κs. search needs)
+    (λ c. search needs)
+    (λ c κs. search needs)
     returns
     returns-2
     returns-3

@@ -3,20 +3,8 @@ use borrow.Author.Needs.{needs}
 use Rattle.word.proofs.step_word.StepWord.step_in.Statement.{statement}
 use Rattle.word.proofs.step_word.StepWord.step_in.Tie as tie
 
-named-requires : tie.Need-named-requires
-named-requires c κs = search needs
-
-enum-known-step : tie.Need-enum-known-step
-enum-known-step c = search needs
-
-enum-told : tie.Need-enum-told
-enum-told c = search needs
-
 returns : tie.Need-returns
 returns c = rw (← (c .before .before .named .ensures), c .enum-told .given .1)
-
-allowed-requires : tie.Need-allowed-requires
-allowed-requires c κs = search needs
 
 returns-2 : tie.Need-returns-2
 returns-2 c =
@@ -30,10 +18,10 @@ pub step-in-spec : {M : Type 1} → statement M
 step-in-spec =
     tie.close
     (tie.spec
-    named-requires
-    enum-known-step
-    enum-told
+    (λ c κs. search needs)
+    (λ c. search needs)
+    (λ c. search needs)
     returns
-    allowed-requires
+    (λ c κs. search needs)
     returns-2
     returns-3)

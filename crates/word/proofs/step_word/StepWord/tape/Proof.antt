@@ -21,9 +21,6 @@ returns : tie.Need-returns
 unfolding tapeOf
 returns c = rw (c .if1 .taken) (none (eqb (c .before .args .kind) 3) (eqb (c .before .args .kind) 8))
 
-sub-pairs : tie.Need-sub-pairs
-sub-pairs c = search needs
-
 mul-pairs : tie.Need-mul-pairs
 mul-pairs c = omega (arith, pairs-lt (c .before .args .n) (omega arith))
 
@@ -48,4 +45,12 @@ returns-4 c = rw (ne-eqb _ 3 (c .match .rest .0 .1), ne-eqb _ 8 (c .match .rest 
 pub tape-spec : {M : Type 1} → statement M
 tape-spec =
     tie.close
-    (tie.spec returns sub-pairs mul-pairs mul-result mul-result-2 returns-2 returns-3 returns-4)
+    (tie.spec
+    returns
+    (λ c. search needs)
+    mul-pairs
+    mul-result
+    mul-result-2
+    returns-2
+    returns-3
+    returns-4)

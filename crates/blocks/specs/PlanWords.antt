@@ -1,0 +1,19 @@
+-- A plan's registers as places, and good plan words.
+use mathlib.Core.Path.{_≡_}
+use Prim.Native.Nat.{ℕ, _<_}
+use Rattle.word.specs.declared.step.Decoded.{Decoded}
+use Rattle.word.specs.declared.step.Decoded.the-variants.{Good, Bad}
+use Rattle.word.specs.Encoding.{planStep}
+use Rattle.gadgets.specs.declared.once.Place.{Place}
+
+-- a register of a plan
+abbrev pub OfPlan : Place → Type 0
+OfPlan p = (p .base < 32) × (p .stride ≡ 32)
+
+-- a word that is not bad
+abbrev pub IsGood : Decoded → Type 0
+IsGood (Good s) = Unit {0}
+IsGood Bad = ⊥
+
+abbrev pub GoodPlanWord : ℕ → Type 0
+GoodPlanWord w = IsGood (planStep w)

@@ -1,0 +1,128 @@
+// ADD: the Kogge-Stone adder on helper registers H, G, P and T, here h, g, p and s.
+ghost use mathlib.Core.Path.{_≡_};
+ghost use Prim.Native.Nat.{_≤_, _<_};
+ghost use lib.ListN.{length};
+ghost use Rattle.masking.specs.Translation as translation;
+ghost use Rattle.blocks.specs.PlanWords.{OfPlan};
+ghost use Rattle.masking.specs.Translation.{blocks, scratch};
+ghost use Rattle.gadgets.specs.Effects.{Enough, Ran};
+use gadgets::and::and_shares;
+use gadgets::once::Op;
+use gadgets::once::Place;
+use gadgets::once::each;
+use word::step_word::StepWord;
+
+// The helper registers: the cells of their share 0, and how far apart a helper's shares are.
+const H: usize = StepWord::HELPERS as usize;
+
+const G: usize = H + 1;
+
+const P: usize = H + 2;
+
+const T: usize = H + 3;
+
+const STRIDE: usize = 8;
+
+// T = G SHL k; T = P AND T; G = G XOR T.
+fn generated(k: u32, n: usize, tape: &[u64], t: usize, cells: &mut [u64]) -> usize
+    requires { ⌜ (k < 64) × (n ≤ 8) × (length (now cells) ≡ 512) ⌝ }
+    requires { ⌜ Enough (now tape) t (blocks scratch n (translation.generated k)) ⌝ }
+    ensures { λ r. ⌜ Ran (blocks scratch n (translation.generated k)) (now (tape .entry)) t (now (cells .entry)) (now (cells .exit)) r ⌝ }
+{
+    let g = Place {
+        base: G,
+        stride: STRIDE,
+    };
+    let p = Place {
+        base: P,
+        stride: STRIDE,
+    };
+    let s = Place {
+        base: T,
+        stride: STRIDE,
+    };
+    each(Op::Shl(k), s, g, g, n, cells);
+    let t = and_shares(s, p, s, n, tape, t, cells);
+    each(Op::Xor, g, g, s, n, cells);
+    t
+}
+
+// T = P SHL k; P = P AND T.
+fn passed(k: u32, n: usize, tape: &[u64], t: usize, cells: &mut [u64]) -> usize
+    requires { ⌜ (k < 64) × (n ≤ 8) × (length (now cells) ≡ 512) ⌝ }
+    requires { ⌜ Enough (now tape) t (blocks scratch n (translation.passed k)) ⌝ }
+    ensures { λ r. ⌜ Ran (blocks scratch n (translation.passed k)) (now (tape .entry)) t (now (cells .entry)) (now (cells .exit)) r ⌝ }
+{
+    let p = Place {
+        base: P,
+        stride: STRIDE,
+    };
+    let s = Place {
+        base: T,
+        stride: STRIDE,
+    };
+    each(Op::Shl(k), s, p, p, n, cells);
+    and_shares(p, p, s, n, tape, t, cells)
+}
+
+// A round that is not the last.
+fn round(k: u32, n: usize, tape: &[u64], t: usize, cells: &mut [u64]) -> usize
+    requires { ⌜ (k < 64) × (n ≤ 8) × (length (now cells) ≡ 512) ⌝ }
+    requires { ⌜ Enough (now tape) t (blocks scratch n (translation.round k)) ⌝ }
+    ensures { λ r. ⌜ Ran (blocks scratch n (translation.round k)) (now (tape .entry)) t (now (cells .entry)) (now (cells .exit)) r ⌝ }
+{
+    let t = generated(k, n, tape, t, cells);
+    passed(k, n, tape, t, cells)
+}
+
+fn rounds(n: usize, tape: &[u64], t: usize, cells: &mut [u64]) -> usize
+    requires { ⌜ (n ≤ 8) × (length (now cells) ≡ 512) ⌝ }
+    requires { ⌜ Enough (now tape) t (blocks scratch n translation.rounds) ⌝ }
+    ensures { λ r. ⌜ Ran (blocks scratch n translation.rounds) (now (tape .entry)) t (now (cells .entry)) (now (cells .exit)) r ⌝ }
+{
+    let t = round(1, n, tape, t, cells);
+    let t = round(2, n, tape, t, cells);
+    let t = round(4, n, tape, t, cells);
+    let t = round(8, n, tape, t, cells);
+    let t = round(16, n, tape, t, cells);
+    generated(32, n, tape, t, cells)
+}
+
+// d = a + b for registers of a plan.
+pub fn add_shares(
+    d: Place,
+    a: Place,
+    b: Place,
+    n: usize,
+    tape: &[u64],
+    t: usize,
+    cells: &mut [u64],
+) -> usize
+    requires { ⌜ (n ≤ 8) × (length (now cells) ≡ 512) × OfPlan d × OfPlan a × OfPlan b ⌝ }
+    requires { ⌜ Enough (now tape) t (blocks scratch n (translation.adding (d .base) (a .base) (b .base))) ⌝ }
+    ensures { λ r. ⌜ Ran (blocks scratch n (translation.adding (d .base) (a .base) (b .base))) (now (tape .entry)) t (now (cells .entry)) (now (cells .exit)) r ⌝ }
+{
+    let h = Place {
+        base: H,
+        stride: STRIDE,
+    };
+    let g = Place {
+        base: G,
+        stride: STRIDE,
+    };
+    let p = Place {
+        base: P,
+        stride: STRIDE,
+    };
+    let s = Place {
+        base: T,
+        stride: STRIDE,
+    };
+    each(Op::Xor, h, a, b, n, cells);
+    let t = and_shares(g, a, b, n, tape, t, cells);
+    each(Op::Shl(0), p, h, h, n, cells);
+    let t = rounds(n, tape, t, cells);
+    each(Op::Shl(1), s, g, g, n, cells);
+    each(Op::Xor, d, h, s, n, cells);
+    t
+}

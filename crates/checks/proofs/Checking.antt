@@ -1,0 +1,88 @@
+-- The search for the first bad word, over any way of taking words apart: its turns, and that the place found is that of the first bad word.
+use mathlib.Core.Bool.{Bool, true, false, cond}
+use mathlib.Core.Path.{_≡_, refl, sym, ap, subst, _∙_}
+use mathlib.Core.List.{List, [], _∷_}
+use Prim.Native.Nat.{ℕ, zero, suc, _+_, _≤_, _<_}
+use native.Mathlib.Nat.{add-zero}
+use native.Mathlib.Numerals.{add-one}
+use native.Mathlib.Omega.{arith}
+use lib.Dec.{ltb}
+use lib.ListN.{length, getD, drop, drop-of-length-le}
+use lib.Seq.{drop-cons}
+use borrow.Author.Tests.{ltb-true, ltb-false}
+use Rattle.word.specs.declared.step.Step.{Step}
+use Rattle.word.specs.declared.step.Decoded.{Decoded}
+use Rattle.word.specs.declared.step.Decoded.the-variants.{Good, Bad}
+use Rattle.checks.specs.declared.reader.Read.{Read}
+use Rattle.checks.specs.declared.reader.Read.the-variants.{Word, End}
+use Rattle.checks.specs.Reader.{readAt}
+use Rattle.word.specs.Encoding.{isGood}
+use Rattle.checks.specs.Answers.{firstOf, firstBad, FirstBad, FirstBadFound}
+
+module _ (l : List ℕ) (i : ℕ) where
+  -- what a reader's finding at place i says of the list
+  abbrev pub Says : Read → Type 0
+  Says (Word w) = (i < length l) × (getD l i 0 ≡ w)
+  Says End = length l ≤ i
+
+  pub says : (r : Read) → readAt l i ≡ r → Says r
+  says r e = subst Says e (by (ltb i (length l)) refl)
+    where
+      by : (b : Bool) → ltb i (length l) ≡ b → Says (cond b (Word (getD l i 0)) End)
+      by true t = (ltb-true i (length l) t, refl)
+      by false t = ltb-false i (length l) t
+
+module _ (step : ℕ → Decoded) (l : List ℕ) (i : ℕ) where
+  -- what the loop keeps: no word before place i is bad
+  abbrev pub Passed : Type 0
+  Passed = firstBad step l ≡ i + firstBad step (drop i l)
+
+  -- a good word is passed
+  pub passed-one : Passed → i < length l → {s : Step} → step (getD l i 0) ≡ Good s → firstBad step l ≡ i + 1 + firstBad step (drop (i + 1) l)
+  passed-one h lt {s} e =
+      h ∙ ap (λ (r : List ℕ). i + firstBad step r) (drop-cons l i 0 lt)
+      ∙ ap (λ (d : Decoded). i + firstOf d (firstBad step (drop (suc i) l))) e
+      ∙ ap (λ (k : ℕ). i + suc (firstBad step (drop k l))) (sym (add-one i)) ∙ omega arith
+
+  -- the search ends at a bad word
+  pub at-bad : Passed → i < length l → step (getD l i 0) ≡ Bad → i ≡ firstBad step l
+  at-bad h lt e =
+      sym (h ∙ ap (λ (r : List ℕ). i + firstBad step r) (drop-cons l i 0 lt) ∙ ap (λ (d : Decoded). i + firstOf d (firstBad step (drop (suc i) l))) e ∙ add-zero i)
+
+  -- or at the end
+  pub at-end : Passed → length l ≤ i → i ≡ firstBad step l
+  at-end h le = sym (h ∙ ap (λ (r : List ℕ). i + firstBad step r) (drop-of-length-le l le) ∙ add-zero i)
+
+-- the turns of a search that only asks whether a word is good
+good-step : (d : Decoded) → isGood d ≡ true → (s : Step) × (d ≡ Good s)
+good-step (Good s) e = (s, refl)
+good-step Bad e = let z : _≡_ {A = ℕ} 0 1 = ap (λ (b : Bool). cond {A = ℕ} b 1 0) e in absurd (omega arith)
+
+bad-step : (d : Decoded) → isGood d ≡ false → d ≡ Bad
+bad-step (Good s) e = let z : _≡_ {A = ℕ} 1 0 = ap (λ (b : Bool). cond {A = ℕ} b 1 0) e in absurd (omega arith)
+bad-step Bad e = refl
+
+module _ (step : ℕ → Decoded) (l : List ℕ) (i : ℕ) where
+  pub asked-one : Passed step l i → i < length l → isGood (step (getD l i 0)) ≡ true → firstBad step l ≡ i + 1 + firstBad step (drop (i + 1) l)
+  asked-one h lt e = let q = good-step (step (getD l i 0)) e in passed-one step l i h lt (q .1)
+
+  pub asked-bad : Passed step l i → i < length l → isGood (step (getD l i 0)) ≡ false → i ≡ firstBad step l
+  asked-bad h lt e = at-bad step l i h lt (bad-step (step (getD l i 0)) e)
+
+-- the place is that of the first bad word, and the end only where there is none
+pub first-bad : FirstBadFound
+first-bad step [] = record { within = omega arith; good = λ k h. absurd (omega arith); bad = λ h. absurd (omega arith) }
+first-bad step (w ∷ ws) = by (step w) refl (first-bad step ws)
+  where
+    by : (d : Decoded) → step w ≡ d → FirstBad step ws (firstBad step ws) → FirstBad step (w ∷ ws) (firstOf d (firstBad step ws))
+    by (Good s) e r =
+        record {
+          within = omega (arith, r .within);
+          good = λ k h. earlier k h;
+          bad = λ h. r .bad (omega arith);
+        }
+      where
+        earlier : (k : ℕ) → k < suc (firstBad step ws) → (t : Step) × (step (getD (w ∷ ws) k 0) ≡ Good t)
+        earlier zero h = (s, e)
+        earlier (suc k) h = r .good k (omega arith)
+    by Bad e r = record { within = omega arith; good = λ k h. absurd (omega arith); bad = λ h. e }

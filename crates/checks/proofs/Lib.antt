@@ -1,0 +1,8 @@
+-- Laws for the proofs of the functions: the search for a bad word (Checking), what an answer that is done says of the turn-downs before it
+-- (Passed), the checks of plans and share programs (Checked), writing into lent slices (Slices), and the walks over the plan reader
+-- (Reading).
+pub mod Checking
+pub mod Passed
+pub mod Checked
+pub mod Slices
+pub mod Reading

@@ -1,0 +1,39 @@
+// Checking a plan: the search for its first bad word, and the check that every call on a plan goes by.
+ghost use mathlib.Core.Path.{_≡_};
+ghost use Rattle.checks.specs.Answers.{done, firstBad, planChecked};
+ghost use Rattle.word.specs.Encoding.{planStep};
+use crate::answer::Answer;
+use crate::reader::Read;
+use crate::reader::word_at;
+use word::step::Decoded;
+use word::step_word::StepWord;
+
+// The place of the plan's first bad word, or the plan's end where no word is bad.
+pub fn plan_first_bad(plan: &[u32]) -> usize
+    ensures { λ r. ⌜ r ≡ firstBad planStep (now (plan .entry)) ⌝ }
+{
+    let mut i = 0;
+    loop {
+        let Read::Word(w) = word_at(plan, i) else {
+            break i;
+        };
+        let Decoded::Good(_) = StepWord::of(w).plan_step() else {
+            break i;
+        };
+        i += 1;
+    }
+}
+
+// 2 where the plan is too long, 3 at its first bad word; else done, with nothing counted.
+pub fn check_plan(plan: &[u32]) -> Answer
+    ensures { λ r. ⌜ r ≡ planChecked (now (plan .entry)) (done 0 0) ⌝ }
+{
+    if StepWord::PLAN_MAX < plan.len() {
+        return Answer::refused(2);
+    }
+    let bad = plan_first_bad(plan);
+    if bad < plan.len() {
+        return Answer::bad_at(bad);
+    }
+    Answer::done(0, 0)
+}

@@ -1,0 +1,37 @@
+// Checking a share program: the search for its first bad word, by kinds and fields alone, since a run checks its whole program first; and
+// the check that every call on a share program goes by.
+ghost use mathlib.Core.Path.{_≡_};
+ghost use Rattle.checks.specs.Answers.{done, firstBad, programChecked};
+ghost use Rattle.word.specs.Encoding.{programStep};
+use crate::answer::Answer;
+use word::step_word::StepWord;
+
+// The place of the share program's first bad word, or the program's end where no word is bad.
+pub fn program_first_bad(program: &[u32]) -> usize
+    ensures { λ r. ⌜ r ≡ firstBad programStep (now (program .entry)) ⌝ }
+{
+    let mut i = 0;
+    loop {
+        if program.len() <= i {
+            break i;
+        }
+        if !StepWord::of(program[i]).is_program_word() {
+            break i;
+        }
+        i += 1;
+    }
+}
+
+// 2 where the program is too long, 3 at its first bad word; else done, with nothing counted.
+pub fn check_program(program: &[u32]) -> Answer
+    ensures { λ r. ⌜ r ≡ programChecked (now (program .entry)) (done 0 0) ⌝ }
+{
+    if StepWord::PROGRAM_MAX < program.len() {
+        return Answer::refused(2);
+    }
+    let bad = program_first_bad(program);
+    if bad < program.len() {
+        return Answer::bad_at(bad);
+    }
+    Answer::done(0, 0)
+}

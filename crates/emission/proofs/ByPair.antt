@@ -1,0 +1,25 @@
+-- What the pairs of shares get, pair by pair. Assumes nothing.
+use mathlib.Core.Path.{_≡_, refl, sym, ap, _∙_}
+use mathlib.Core.List.{List, [], _∷_, _++_, append-assoc}
+use Prim.Native.Nat.{_+_, _-_}
+use Rattle.word.specs.declared.step.Step.{Step}
+use Rattle.masking.specs.Translation.{Pair}
+use Rattle.emission.specs.declared.pairs.EachPair.{EachPair}
+use Rattle.emission.specs.declared.pairs.EachPair.the-variants.{Refresh, Products}
+use Rattle.emission.specs.Written.{pairSteps}
+
+-- what pairs get, pair by pair
+pub pair-first : (k : EachPair) (p : Pair) (ps : List Pair) → pairSteps k (p ∷ ps) ≡ pairSteps k (p ∷ []) ++ pairSteps k ps
+pair-first Refresh p ps = refl
+pair-first (Products a) p ps = refl
+
+pub pair-none : (k : EachPair) → pairSteps k [] ≡ []
+pair-none Refresh = refl
+pair-none (Products a) = refl
+
+pub pair-append : (k : EachPair) (ps qs : List Pair) → pairSteps k (ps ++ qs) ≡ pairSteps k ps ++ pairSteps k qs
+pair-append k [] qs = ap (λ (r : List Step). r ++ pairSteps k qs) (sym (pair-none k))
+pair-append k (p ∷ ps) qs =
+    pair-first k p (ps ++ qs) ∙ ap (λ (r : List Step). pairSteps k (p ∷ []) ++ r) (pair-append k ps qs)
+    ∙ sym (append-assoc (pairSteps k (p ∷ [])) (pairSteps k ps) (pairSteps k qs))
+    ∙ ap (λ (r : List Step). r ++ pairSteps k qs) (sym (pair-first k p ps))

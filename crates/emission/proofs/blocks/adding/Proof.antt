@@ -1,0 +1,58 @@
+-- `emission::blocks::adding` meets its contract: ADD's steps are written one by one.
+use mathlib.Core.Path.{_≡_, refl, ap}
+use Prim.Native.Nat.{_-_, _≤_}
+use native.Mathlib.Omega.{arith}
+use lib.ListN.{drop, drop-of-length-le}
+use Rattle.masking.specs.Translation.{scratch, block, blocks, adding}
+use Rattle.emission.specs.Written.{adderStep}
+use Rattle.emission.proofs.Parts.{Left, start, renamed, part, room, whole}
+use Rattle.emission.proofs.Laid.{adding-length, adder-registers, adder-next}
+use Rattle.emission.proofs.blocks.adding.Statement.{statement}
+use Rattle.emission.proofs.blocks.adding.Tie as tie
+
+abbrev Inv-loop : tie.InvT-loop
+Inv-loop d a b n at out₀ at₀ k₀ out at' k = (k ≤ 33) × Left out₀ at₀ (blocks scratch n (adding d a b)) out at' (blocks scratch n (drop k (adding d a b))) × (at₀ ≡ at)
+
+abbrev μ-loop : tie.MeasureT-loop
+μ-loop d a b n at out₀ at₀ k₀ out at' k = 33 - k
+
+loop-holds : tie.Need-loop-holds Inv-loop μ-loop
+loop-holds c = (omega arith, start _ _ _, refl)
+
+block-requires : tie.Need-block-requires Inv-loop μ-loop
+block-requires c κs =
+    let a = c .before .before .before .before .before .args in
+    let k = c .before .before .before .loop .k in
+    let l = renamed _ _ _ (adder-next (a .d) (a .a) (a .b) (a .n) k (omega arith)) (c .before .before .before .loop .inv .1) in
+    rw (c .before .adder-step .ensures)
+    (adder-registers (a .d) (a .a) (a .b) (c .before .before .before .before .before .pre .0) k (omega arith), room _ _ l (c .before .before .before .before .before .pre .1))
+
+loop-again : tie.Need-loop-again Inv-loop μ-loop
+loop-again c =
+    let a = c .before .before .before .before .before .before .before .before .args in
+    let k = c .before .before .before .before .before .before .loop .k in
+    let l = renamed _ _ _ (adder-next (a .d) (a .a) (a .b) (a .n) k (omega arith)) (c .before .before .before .before .before .before .loop .inv .1) in
+    (omega arith, part (block scratch (a .n) (adderStep (a .d) (a .a) (a .b) k)) _ l (rw (c .before .before .before .before .adder-step .ensures) at (c .before .before .block .ensures)), refl)
+
+same-length : tie.Need-same-length Inv-loop μ-loop
+same-length c = c .before .loop .inv .1 .long
+
+returns : tie.Need-returns Inv-loop μ-loop
+returns c =
+    let a = c .before .before .before .args in
+    whole (renamed _ _ _ (ap (blocks scratch (a .n)) (drop-of-length-le (adding (a .d) (a .a) (a .b)) {i = c .before .loop .k} (omega (arith, adding-length (a .d) (a .a) (a .b), c .loop-test .left)))) (c .before .loop .inv .1))
+
+pub adding-spec : {M : Type 1} → statement M
+adding-spec =
+    tie.close
+    (tie.spec
+    Inv-loop
+    μ-loop
+    loop-holds
+    (λ c κs. omega arith)
+    block-requires
+    (λ c. omega arith)
+    (λ c. omega arith)
+    loop-again
+    same-length
+    returns)

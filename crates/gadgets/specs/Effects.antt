@@ -1,0 +1,96 @@
+-- What the contracts of inner functions say: a plan word's share steps done straight on the cells.
+-- Nothing here has to be believed: the contracts of the public calls do not cite it.
+use mathlib.Core.Path.{_≡_}
+use mathlib.Core.List.{List}
+use Prim.Native.Nat.{ℕ, _+_, _*_, _≤_, _<_}
+use lib.ListN.{length, getD, set, drop}
+use Rattle.bits.specs.Ops.{xorW, andW, notW, shlW, shrW, spreadW}
+use Rattle.word.specs.declared.step.Step.{Step}
+use Rattle.word.specs.declared.step.Step.the-variants.{Const, Xor, And, Not, Shl, Shr, Spread}
+use Rattle.masking.specs.Machine.{execSteps, randsOf}
+use Rattle.gadgets.specs.declared.once.Place.{Place}
+use Rattle.gadgets.specs.declared.once.Op.{Op}
+use Rattle.gadgets.specs.declared.once.Op.the-variants as op
+
+-- the tape has the words that steps take from place t on
+abbrev pub Enough : List ℕ → ℕ → List Step → Type 0
+Enough tape t ss = t + randsOf ss ≤ length tape
+
+-- steps done from place t of the tape on: the cells afterwards and the next place
+pub record Ran (ss : List Step) (tape : List ℕ) (t : ℕ) (before after : List ℕ) (next : ℕ) : Type 0 where
+  pub cells : after ≡ execSteps ss (drop t tape) before
+  pub place : next ≡ t + randsOf ss
+
+-- steps that take no tape word, done
+abbrev pub Still : List Step → List ℕ → List ℕ → Type 0
+Still ss before after = (tape : List ℕ) → after ≡ execSteps ss tape before
+
+-- ---- once per share
+
+-- share i of a place
+abbrev pub at : Place → ℕ → ℕ
+at p i = p .base + i * p .stride
+
+-- all eight shares are cells
+abbrev pub InCells : Place → Type 0
+InCells p = p .base + 7 * p .stride < 512
+
+-- a shift is by less than 64
+abbrev pub Shifts : Op → Type 0
+Shifts (op.Const k) = Unit {0}
+Shifts op.Xor = Unit {0}
+Shifts op.And = Unit {0}
+Shifts op.Not = Unit {0}
+Shifts (op.Shl k) = k < 64
+Shifts (op.Shr k) = k < 64
+Shifts op.Spread = Unit {0}
+
+abbrev pub valueOf : Op → ℕ → ℕ → ℕ
+valueOf (op.Const k) x y = k
+valueOf op.Xor x y = xorW x y
+valueOf op.And x y = andW x y
+valueOf op.Not x y = notW x
+valueOf (op.Shl k) x y = shlW x k
+valueOf (op.Shr k) x y = shrW x k
+valueOf op.Spread x y = spreadW x
+
+-- the step of share i, with the cells of d, a and b
+abbrev pub onceStep : Op → (ℕ → ℕ) → (ℕ → ℕ) → (ℕ → ℕ) → ℕ → Step
+onceStep (op.Const k) d a b i = Const (d i) k
+onceStep op.Xor d a b i = Xor (d i) (a i) (b i)
+onceStep op.And d a b i = And (d i) (a i) (b i)
+onceStep op.Not d a b i = Not (d i) (a i)
+onceStep (op.Shl k) d a b i = Shl (d i) (a i) k
+onceStep (op.Shr k) d a b i = Shr (d i) (a i) k
+onceStep op.Spread d a b i = Spread (d i) (a i)
+
+-- ---- pairs of shares
+
+-- a place whose shares are cells outside AND's scratch
+pub record Register (p : Place) : Type 0 where
+  pub inside : InCells p
+  pub away : (i c : ℕ) → i < 8 → 256 ≤ c → c < 288 → at p i ≡ c → ⊥
+
+-- the cells after the refresh of one pair by the word r
+abbrev pub refreshed : ℕ → ℕ → ℕ → List ℕ → List ℕ
+refreshed i j r cells =
+    set (set (set cells 272 r) (256 + i) (xorW (getD cells (256 + i) 0) r)) (256 + j) (xorW (getD cells (256 + j) 0) r)
+
+-- the cells after the products u and v of one pair behind the word r
+abbrev pub stored : ℕ → ℕ → ℕ → ℕ → ℕ → List ℕ → List ℕ
+stored i j r u v cells =
+    let x = xorW (getD cells (264 + i) 0) r in
+    let s = xorW r u in
+    let w = xorW s v in
+    set (set (set (set (set (set (set cells 272 r) (264 + i) x) 273 u) 272 s) 273 v) 272 w) (264 + j) (xorW (getD cells (264 + j) 0) w)
+
+abbrev pub crossedPair : ℕ → ℕ → ℕ → ℕ → ℕ → List ℕ → List ℕ
+crossedPair p q i j r cells =
+    stored i j r (andW (getD cells p 0) (getD cells (256 + j) 0)) (andW (getD cells q 0) (getD cells (256 + i) 0)) cells
+
+-- AND's scratch: share i of y and of z
+abbrev pub placeY : Place
+placeY = record { base = 256; stride = 1 }
+
+abbrev pub placeZ : Place
+placeZ = record { base = 264; stride = 1 }

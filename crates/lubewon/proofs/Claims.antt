@@ -1,0 +1,49 @@
+-- Every top statement of the library holds: each field is the theorem of its own crate.
+use Rattle.bits.proofs.Adder.{adder-sum}
+use Rattle.word.proofs.Together as together
+use Rattle.checks.proofs.Checking as checking
+use Rattle.plain.proofs.Laws.{laws}
+use Rattle.plain.proofs.Examples as plain-examples
+use Rattle.masking.proofs.emitted.Counts as emitted-counts
+use Rattle.masking.proofs.Demand3 as runs
+use Rattle.masking.proofs.Leaks as leaks
+use Rattle.masking.proofs.Examples as examples
+use Rattle.translation.proofs.Tied as tied
+use Rattle.binary64.proofs.Meaning as meaning
+use Rattle.binary64.proofs.FloorMeaning as floor-meaning
+use Rattle.binary64.proofs.Ieee as ieee
+use Rattle.binary64.proofs.Corners as at-corners
+use Rattle.binary64.proofs.Edges.{edges-hold}
+use Rattle.plans.proofs.BuiltIns as plans
+use Rattle.operations.proofs.Masked as operations
+use Rattle.splitting.proofs.SplitJoin as splitting
+use Rattle.listing.proofs.Whole as listing
+use Rattle.listing.proofs.Example as listed
+use Rattle.lubewon.specs.Claims.{Claims}
+
+pub claims : Claims
+claims =
+    record {
+      words-exact = together.words-exact;
+      first-bad = checking.first-bad;
+      plain-machine = laws;
+      adder = adder-sum;
+      counts = emitted-counts.counts;
+      demand3 = runs.demand3;
+      translate-tied = tied.translate-tied;
+      unrefreshed-leaks = leaks.unrefreshed-leaks;
+      rounding-means = meaning.rounding-means;
+      floor-means = floor-meaning.floor-means;
+      floor-minus-zero = floor-meaning.floor-minus-zero;
+      product-is-ieee = ieee.product-is-ieee;
+      sum-is-ieee = ieee.sum-is-ieee;
+      corners = at-corners.corners;
+      edges = edges-hold;
+      built-ins = plans.built-ins;
+      masked = operations.masked;
+      split-joins = splitting.split-joins;
+      pieces-are-listing = listing.pieces-are-listing;
+      example = listed.example;
+      word-examples = plain-examples.word-examples;
+      translation-examples = examples.translation-examples;
+    }

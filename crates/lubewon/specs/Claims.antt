@@ -1,0 +1,52 @@
+-- Every top statement of the library, in one record: the root of what is claimed. `claims`, in proofs/, proves it, so that a statement that is
+-- lost fails the gate; proofs/Parts does so for the parts of each statement. docs/CLAIMS.md maps the sentences of document 01 to these fields.
+use Rattle.bits.specs.Adder.{AdderAdds}
+use Rattle.word.specs.Parts.{WordsExact}
+use Rattle.checks.specs.Answers.{FirstBadFound}
+use Rattle.plain.specs.Laws.{Laws}
+use Rattle.plain.specs.Examples.{WordExamples}
+use Rattle.masking.specs.Counts.{Counts}
+use Rattle.masking.specs.Demand3.{Demand3Holds}
+use Rattle.masking.specs.Leaks.{UnrefreshedLeaks}
+use Rattle.masking.specs.Examples.{TranslationExamples}
+use Rattle.translation.specs.Tied.{TranslateTied}
+use Rattle.binary64.specs.Meaning.{RoundingMeans, FloorMeans, FloorMinusZero}
+use Rattle.binary64.specs.Ieee.{ProductIsIeee, SumIsIeee}
+use Rattle.binary64.specs.Corners.{Corners}
+use Rattle.binary64.specs.Edges.{EdgesHold}
+use Rattle.plans.specs.BuiltIns.{BuiltIns}
+use Rattle.operations.specs.Masked.{Masked}
+use Rattle.splitting.specs.SplitJoin.{SplitJoins}
+use Rattle.listing.specs.Sharelist.{ExampleListed}
+use Rattle.listing.specs.Pieces.{PiecesAreListing}
+
+pub record Claims : Type 0 where
+  -- step words: taken apart and put together; the first bad word; the plain machine; the adder's steps add
+  pub words-exact : WordsExact
+  pub first-bad : FirstBadFound
+  pub plain-machine : Laws
+  pub adder : AdderAdds
+  -- translation and share runs: lengths, tape words and cells; demand 3; that it is about the words Translate writes
+  pub counts : Counts
+  pub demand3 : Demand3Holds
+  pub translate-tied : TranslateTied
+  -- and that an AND without its refresh has no such secrecy
+  pub unrefreshed-leaks : UnrefreshedLeaks
+  -- numbers: what rounding and floor mean, where the results are IEEE 754's, the corners, the table of edges
+  pub rounding-means : RoundingMeans
+  pub floor-means : FloorMeans
+  pub floor-minus-zero : FloorMinusZero
+  pub product-is-ieee : ProductIsIeee
+  pub sum-is-ieee : SumIsIeee
+  pub corners : Corners
+  pub edges : EdgesHold
+  -- the built-in plans, the operations on shares, split and join
+  pub built-ins : BuiltIns
+  pub masked : Masked
+  pub split-joins : SplitJoins
+  -- the listing, and document 01's example of it
+  pub pieces-are-listing : PiecesAreListing
+  pub example : ExampleListed
+  -- worked examples of words, plans and translations
+  pub word-examples : WordExamples
+  pub translation-examples : TranslationExamples

@@ -1,0 +1,2 @@
+-- The root of what is claimed (Claims).
+pub mod Claims

@@ -1,0 +1,23 @@
+// Split and join for C.
+ghost use mathlib.Core.Path.{_≡_};
+ghost use lib.ListN.{length};
+ghost use Rattle.splitting.specs.SplitJoin.{joinAnswer, joinedWord, splitAnswer, splitOut};
+use checks::answer::Answer;
+use splitting::Joined;
+
+// Splits a word into as many shares as `out` has words.
+#[no_mangle]
+pub extern "C" fn lubewon_split(word: u64, tape: &[u64], out: &mut [u64]) -> Answer
+    ensures answer { λ r. ⌜ r ≡ splitAnswer (length (now (out .entry))) (length (now (tape .entry))) ⌝ }
+    ensures out { λ _. ⌜ now (out .exit) ≡ splitOut word (now (tape .entry)) (now (out .entry)) ⌝ }
+{
+    splitting::split(word, tape, out)
+}
+
+// Joins shares to their word, 0 when turned down.
+#[no_mangle]
+pub extern "C" fn lubewon_join(shares: &[u64]) -> Joined
+    ensures { λ r. ⌜ (r .answer ≡ joinAnswer (length (now (shares .entry)))) × (r .word ≡ joinedWord (now (shares .entry))) ⌝ }
+{
+    splitting::join(shares)
+}

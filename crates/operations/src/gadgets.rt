@@ -1,7 +1,0 @@
-// A plan word's share steps done straight on the cells: no share word is written and none is taken apart. The contracts say that the cells
-// are those that the translation gives, scratch cells included.
-pub mod add;
-pub mod and;
-pub mod once;
-pub mod pairs;
-pub mod plan_word;

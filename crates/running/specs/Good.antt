@@ -1,0 +1,15 @@
+-- Names for good words, cited by inner functions only: nothing here has to be believed.
+use mathlib.Core.Path.{_≡_}
+use mathlib.Core.List.{List}
+use Prim.Native.Nat.{ℕ, _<_}
+use lib.ListN.{length, getD}
+use Rattle.word.specs.declared.step.Step.{Step}
+use Rattle.word.specs.declared.step.Decoded.the-variants.{Good}
+use Rattle.word.specs.Encoding.{programStep}
+
+-- a good word of a share program
+abbrev pub GoodWord : ℕ → Type 0
+GoodWord w = (s : Step) × (programStep w ≡ Good s)
+
+abbrev pub AllGood : List ℕ → Type 0
+AllGood words = (i : ℕ) → i < length words → GoodWord (getD words i 0)

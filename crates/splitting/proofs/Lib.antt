@@ -1,0 +1,2 @@
+-- Split and join: there and back, and what their loops keep (SplitJoin).
+pub mod SplitJoin

@@ -1,0 +1,22 @@
+-- `splitting::join` meets its contract.
+use borrow.Author.Tests.{eq-eqb, ne-eqb}
+use borrow.Author.Needs.{needs}
+use Rattle.splitting.proofs.join.Statement.{statement}
+use Rattle.splitting.proofs.join.Tie as tie
+
+returns : tie.Need-returns
+returns c =
+    let e = c .before .before .before .join-answer .ensures in
+    (e, rw (← e, eq-eqb _ 0 (c .before .if1 .taken)) (c .unmask .ensures))
+
+returns-2 : tie.Need-returns-2
+returns-2 c =
+    let e = c .before .before .join-answer .ensures in
+    (e, rw (← e, ne-eqb _ 0 (c .if1 .left)))
+
+pub join-spec : {M : Type 1} → statement M
+join-spec = tie.close (tie.spec
+    (λ c κs. search needs)
+    (λ c κs. search needs)
+    returns
+    returns-2)

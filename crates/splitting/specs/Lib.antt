@@ -1,0 +1,2 @@
+-- Split and join, and that they go there and back (SplitJoin).
+pub mod SplitJoin

@@ -1,0 +1,69 @@
+// Translate: writes a plan's share program.
+ghost use mathlib.Core.Path.{_≡_};
+ghost use mathlib.Core.List.{_++_};
+ghost use Prim.Native.Nat.{_≤_};
+ghost use lib.ListN.{length, drop};
+ghost use lib.Seq.{sets};
+ghost use Rattle.word.specs.Encoding.{planStep};
+ghost use Rattle.masking.specs.Foretold.{Accepted, foretoldWords};
+ghost use Rattle.masking.specs.Translation.{program, wordsFor};
+ghost use Rattle.translation.specs.Calls.{translateAnswer, translateOut};
+ghost use Rattle.translation.specs.Tied.{TranslateTied};
+use crate::measure::measure;
+use crate::measure::share_words;
+use checks::answer::Answer;
+use emission::blocks::laid_out;
+use word::step::Decoded;
+use word::step_word::StepWord;
+
+// Writes one plan word's translation at the front of what is lent.
+fn translate_word(n: u8, w: u32, out: &mut [u32])
+    requires { ⌜ length (wordsFor n (planStep w)) ≤ length (now out) ⌝ }
+    ensures { λ _. ⌜ now (out .exit) ≡ sets (now (out .entry)) 0 (wordsFor n (planStep w)) ⌝ }
+{
+    let Decoded::Good(s) = StepWord::of(w).plan_step() else {
+        return;
+    };
+    laid_out(s, n, 0, out);
+}
+
+// Writes the words of each plan word where the last one's ended.
+fn translate_words(n: u8, plan: &[u32], out: &mut [u32])
+    requires { ⌜ Accepted n (now plan) ⌝ }
+    requires { ⌜ foretoldWords n (now plan) ≤ length (now out) ⌝ }
+    ensures { λ _. ⌜ now (out .exit) ≡ program n (now (plan .entry)) ++ drop (length (program n (now (plan .entry)))) (now (out .entry)) ⌝ }
+{
+    let mut at = 0;
+    for i in 0..plan.len() {
+        let w = plan[i];
+        translate_word(n, w, &mut out[at..]);
+        at += share_words(w, n);
+    }
+}
+
+// Measure's answer, or 4 where the output is shorter than measured.
+fn translate_answer(n: usize, plan: &[u32], room: usize) -> Answer
+    ensures { λ r. ⌜ r ≡ translateAnswer n (now (plan .entry)) room ⌝ }
+{
+    let measured = measure(n, plan);
+    if measured.number == 0 {
+        if room < measured.words {
+            return Answer::refused(4);
+        }
+    }
+    measured
+}
+
+// Turned down as Measure is, and with 4 where the output is shorter than measured; the output is then as it was. Output past the
+// program's end stays as it was. What ties the words written to demand 3 is `TranslateTied`.
+pub fn translate(n: usize, plan: &[u32], out: &mut [u32]) -> Answer
+    ensures answer { λ r. ⌜ r ≡ translateAnswer n (now (plan .entry)) (length (now (out .entry))) ⌝ }
+    ensures out { λ _. ⌜ now (out .exit) ≡ translateOut n (now (plan .entry)) (now (out .entry)) ⌝ }
+    ensures holds { λ _. ⌜ TranslateTied ⌝ }
+{
+    let answer = translate_answer(n, plan, out.len());
+    if answer.number == 0 {
+        translate_words(n as u8, plan, out);
+    }
+    answer
+}
