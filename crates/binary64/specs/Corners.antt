@@ -22,7 +22,7 @@ pub record Corners : Type 0 where
   pub product-before-rounding : product 0x0010000000000001 0x3FEFFFFFFFFFFFFE ≡ 0
   pub product-rounded-first :
       (let M = magnitude 0x0010000000000001 * magnitude 0x3FEFFFFFFFFFFFFE in limited (roundedE 1126 M) (roundedF M)) ≡ 0x0010000000000000
-  -- the same of sums: like signs; unlike signs, where the larger operand gives the sign, whichever it is
+  -- the same of sums: with like signs only zeros are so small; with unlike ones the larger operand gives the sign, whichever it is
   pub sum-underflow : (a b : ℕ) → sign a ≡ sign b → magnitude a + magnitude b < 2 ^ 52 → sum a b ≡ signed (sign a) 0
   pub difference-underflow :
       (a b : ℕ) → (sign a ≡ sign b → ⊥) → magnitude b < magnitude a → magnitude a - magnitude b < 2 ^ 52

@@ -1,5 +1,5 @@
 -- Agreement with IEEE 754, as statements. `mul`, `add`, `ofBits` and `toBits` at `binary64` are the toolchain library's own IEEE 754 operations.
--- They cover operands that are zeros or normal numbers, wherever the exact result is zero or not below 2^-1022 in magnitude;
+-- The statements cover operands that are zeros or normal numbers, wherever the exact result is zero or not below 2^-1022 in magnitude;
 -- overflow to E = 2047, F = 0 (an infinity there) and the signs of zeros are included. Outside, document 01 departs from IEEE 754 in these places:
 -- - An operand with E = 0, F ≠ 0 is a zero here, a subnormal number there.
 -- - An exact result that is not zero and below 2^-1022 is a zero of its sign here. There it is rounded to a multiple of 2^-1074: to a zero or a subnormal number,

@@ -31,7 +31,7 @@ pub fn sum(a: u64, b: u64) -> u64
     }
 }
 
-// The greatest whole number not above the operand. Between 1023 and 1074 the low 1075 - E bits are the fraction;
+// The greatest whole number not above the operand; -1 for minus zero. Between 1023 and 1074 the low 1075 - E bits are the fraction;
 // the word of a negative number is raised to the next multiple, a carry going into E.
 pub fn floor(a: u64) -> u64
     ensures { λ r. ⌜ r ≡ floor a ⌝ }

@@ -7,7 +7,7 @@ use Prim.Native.Nat.{ℕ, _+_, _-_, _*_, _/_, _%_, _^_, _<_}
 use native.Mathlib.Nat.{mod-eq-of-lt, div-add-mod', mul-add-mod-self-right}
 use native.Mathlib.Omega.{arith}
 use Rattle.bits.specs.Ops.{xorW, andW, shlW, addW}
-use Rattle.bits.specs.Adder.{Carry, round, rounds, entered, adder, AdderAdds}
+use Rattle.bits.specs.Adder.{Carry, carryRound, carryRounds, entered, adder, AdderAdds}
 use Rattle.bits.proofs.Xor.{xor-assoc, xor-zero, xor-cancel, and-zero, and-xor, and-assoc}
 use Rattle.bits.proofs.Shift.{shl-xor, shl-and, shl-shl, shl-width, shl-zero}
 use Rattle.bits.proofs.Bound.{xor-lt, add-lt}
@@ -17,7 +17,7 @@ use Rattle.bits.proofs.Sum.{maj, full-adder}
 Carries : ℕ → ℕ → Carry → Type 0
 Carries K k c = K ≡ xorW (c .G) (andW (c .P) (shlW K k))
 
-round-carries : (K k : ℕ) (c : Carry) → Carries K k c → Carries K (k + k) (round k c)
+round-carries : (K k : ℕ) (c : Carry) → Carries K k c → Carries K (k + k) (carryRound k c)
 unfolding Carries
 round-carries K k c h =
     let e : shlW K k ≡ xorW (shlW (c .G) k) (andW (shlW (c .P) k) (shlW K (k + k))) =
@@ -50,19 +50,19 @@ module _ (a b : ℕ) (ha : a < 2 ^ 64) (hb : b < 2 ^ 64) where
   unfolding Carries K
   entered-carries = ap₂ (λ (p x : ℕ). xorW (andW a b) (andW p x)) (sym (shl-zero (xorW a b) (xor-lt 64 a b ha hb))) (sym up)
 
-  through : Carries K 64 (rounds (1 ∷ 2 ∷ 4 ∷ 8 ∷ 16 ∷ 32 ∷ []) (entered a b))
+  through : Carries K 64 (carryRounds (1 ∷ 2 ∷ 4 ∷ 8 ∷ 16 ∷ 32 ∷ []) (entered a b))
   through =
       let c1 = round-carries K 1 (entered a b) entered-carries in
-      let c2 = round-carries K 2 (rounds (1 ∷ []) (entered a b)) c1 in
-      let c4 = round-carries K 4 (rounds (1 ∷ 2 ∷ []) (entered a b)) c2 in
-      let c8 = round-carries K 8 (rounds (1 ∷ 2 ∷ 4 ∷ []) (entered a b)) c4 in
-      let c16 = round-carries K 16 (rounds (1 ∷ 2 ∷ 4 ∷ 8 ∷ []) (entered a b)) c8 in
-      round-carries K 32 (rounds (1 ∷ 2 ∷ 4 ∷ 8 ∷ 16 ∷ []) (entered a b)) c16
+      let c2 = round-carries K 2 (carryRounds (1 ∷ []) (entered a b)) c1 in
+      let c4 = round-carries K 4 (carryRounds (1 ∷ 2 ∷ []) (entered a b)) c2 in
+      let c8 = round-carries K 8 (carryRounds (1 ∷ 2 ∷ 4 ∷ []) (entered a b)) c4 in
+      let c16 = round-carries K 16 (carryRounds (1 ∷ 2 ∷ 4 ∷ 8 ∷ []) (entered a b)) c8 in
+      round-carries K 32 (carryRounds (1 ∷ 2 ∷ 4 ∷ 8 ∷ 16 ∷ []) (entered a b)) c16
 
   sums : adder a b ≡ addW a b
   unfolding adder Carries C
   sums =
-      let c : Carry = rounds (1 ∷ 2 ∷ 4 ∷ 8 ∷ 16 ∷ 32 ∷ []) (entered a b) in
+      let c : Carry = carryRounds (1 ∷ 2 ∷ 4 ∷ 8 ∷ 16 ∷ 32 ∷ []) (entered a b) in
       let e : c .G ≡ K = sym (through ∙ ap (λ (x : ℕ). xorW (c .G) (andW (c .P) x)) (shl-width K 0) ∙ ap (xorW (c .G)) (and-zero (c .P)) ∙ xor-zero (c .G)) in
       ap (λ (x : ℕ). xorW (xorW a b) (shlW x 1)) e ∙ ap (xorW (xorW a b)) up ∙ xor-cancel (xorW a b) (addW a b)
 

@@ -11,12 +11,12 @@ pub record Carry : Type 0 where
 
 -- "T = G SHL k; T = P AND T; G = G XOR T; .. T = P SHL k; P = P AND T"
 -- (after k = 32 the last two words are left out: nothing reads that P)
-abbrev pub round : ℕ → Carry → Carry
-round k c = record { G = xorW (c .G) (andW (c .P) (shlW (c .G) k)); P = andW (c .P) (shlW (c .P) k) }
+abbrev pub carryRound : ℕ → Carry → Carry
+carryRound k c = record { G = xorW (c .G) (andW (c .P) (shlW (c .G) k)); P = andW (c .P) (shlW (c .P) k) }
 
-abbrev pub rounds : List ℕ → Carry → Carry
-rounds [] c = c
-rounds (k ∷ ks) c = rounds ks (round k c)
+abbrev pub carryRounds : List ℕ → Carry → Carry
+carryRounds [] c = c
+carryRounds (k ∷ ks) c = carryRounds ks (carryRound k c)
 
 -- "H = a XOR b; G = a AND b; P = H by SHL 0"
 abbrev pub entered : ℕ → ℕ → Carry
@@ -24,7 +24,7 @@ entered a b = record { G = andW a b; P = shlW (xorW a b) 0 }
 
 -- "For k = 1, 2, 4, 8, 16, 32: ..  Then T = G SHL 1; d = H XOR T."
 unfoldable pub adder : ℕ → ℕ → ℕ
-adder a b = xorW (xorW a b) (shlW (rounds (1 ∷ 2 ∷ 4 ∷ 8 ∷ 16 ∷ 32 ∷ []) (entered a b) .G) 1)
+adder a b = xorW (xorW a b) (shlW (carryRounds (1 ∷ 2 ∷ 4 ∷ 8 ∷ 16 ∷ 32 ∷ []) (entered a b) .G) 1)
 
 -- what is proved of it: for all words it is the wrapping sum
 abbrev pub AdderAdds : Type 0

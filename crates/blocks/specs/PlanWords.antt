@@ -1,4 +1,4 @@
--- A plan's registers as places, and good plan words.
+-- Names for a plan's registers as places and for good plan words, cited by inner functions only: nothing here has to be believed.
 use mathlib.Core.Path.{_≡_}
 use Prim.Native.Nat.{ℕ, _<_}
 use Rattle.word.specs.declared.step.Decoded.{Decoded}

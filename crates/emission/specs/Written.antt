@@ -1,4 +1,4 @@
--- What the parts of Translate write, each by masking's definitions of the translation.
+-- Names for what the parts of Translate write, by masking's definitions, cited by inner functions only: nothing here has to be believed.
 use mathlib.Core.Path.{_≡_}
 use mathlib.Core.Bool.{cond}
 use mathlib.Core.List.{List, _∷_, map}

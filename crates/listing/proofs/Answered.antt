@@ -11,7 +11,7 @@ use Rattle.checks.specs.declared.answer.Answer.{Answer}
 use Rattle.word.specs.Layout.{isShareCount}
 use Rattle.checks.specs.Answers.{refused, given}
 use Rattle.translation.specs.Calls.{measureAnswer}
-use Rattle.listing.specs.Sharelist.{listAnswer, wordsOf, countOf, planOf}
+use Rattle.listing.specs.Sharelist.{listAnswer, wordsOf, countOf, planRead}
 
 pub no-byte : (input : List ℕ) → length input ≡ 0 → listAnswer input ≡ refused 1
 unfolding listAnswer
@@ -43,12 +43,12 @@ broken (n ∷ rest) h a l m =
     cases n rest a (le-ltb 8192 (length rest) (omega arith)) (ne-eqb (length rest % 4) 0 (rw e at m))
 
 pub measured-then : (input : List ℕ) → 0 < length input → isShareCount (getD input 0 0) ≡ true → length input - 1 ≤ 8192 → (length input - 1) % 4 ≡ 0
-    → listAnswer input ≡ measureAnswer (getD input 0 0) (planOf input)
+    → listAnswer input ≡ measureAnswer (getD input 0 0) (planRead input)
 measured-then [] h a l m = absurd (omega arith)
 measured-then (n ∷ rest) h a l m = cases n rest a (le-ltb 8192 (length rest) (omega arith)) (eq-eqb (length rest % 4) 0 (omega arith))
 
 -- an input that is not turned down has a plan that Measure takes
-pub taken : (input : List ℕ) → listAnswer input .number ≡ 0 → measureAnswer (countOf input) (planOf input) .number ≡ 0
+pub taken : (input : List ℕ) → listAnswer input .number ≡ 0 → measureAnswer (countOf input) (planRead input) .number ≡ 0
 unfolding listAnswer
 taken [] h = absurd (omega arith)
 taken (n ∷ rest) h = by-tests (not (isShareCount n)) (ltb 8192 (length rest) || not (eqb (length rest % 4) 0)) (measureAnswer n (wordsOf rest)) h

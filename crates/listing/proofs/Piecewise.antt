@@ -14,7 +14,7 @@ use Rattle.word.specs.Layout.{planMax}
 use Rattle.checks.specs.Answers.{keptUnless}
 use Rattle.translation.specs.Calls.{measured}
 use Rattle.translation.proofs.Counted.{accepted}
-use Rattle.listing.specs.Sharelist.{listAnswer, countOf, planOf}
+use Rattle.listing.specs.Sharelist.{listAnswer, countOf, planRead}
 use Rattle.text.specs.Lines.{firstLine, refusedLine}
 use Rattle.text.specs.Writing.{Wrote}
 use Rattle.listing.specs.Pieces.{ListsPart, ListsPiece, wordLines, linesOf, wordBytes, listedWords, headOf, pieceCount, pieceText, wordsListed, pieceNext, pieceLast, piecesFrom}
@@ -26,13 +26,13 @@ use Rattle.listing.proofs.Parts.{fit-some, fitted-most}
 -- ---- by the answer's cases
 
 module _ (input : List ℕ) where
-  pub listed-taken : listAnswer input .number ≡ 0 → listedWords input ≡ planOf input
+  pub listed-taken : listAnswer input .number ≡ 0 → listedWords input ≡ planRead input
   unfolding listedWords
-  listed-taken h = ap (λ (k : ℕ). keptUnless (eqb k 0) (planOf input) []) h
+  listed-taken h = ap (λ (k : ℕ). keptUnless (eqb k 0) (planRead input) []) h
 
   pub listed-none : (listAnswer input .number ≡ 0 → ⊥) → listedWords input ≡ []
   unfolding listedWords
-  listed-none h = ap (λ (b : Bool). keptUnless b (planOf input) []) (ne-eqb (listAnswer input .number) 0 h)
+  listed-none h = ap (λ (b : Bool). keptUnless b (planRead input) []) (ne-eqb (listAnswer input .number) 0 h)
 
   pub head-taken : listAnswer input .number ≡ 0 → headOf input ≡ firstLine (countOf input) (listAnswer input .words) (listAnswer input .tape)
   unfolding headOf
@@ -49,7 +49,7 @@ module _ (input : List ℕ) where
       by : (b : Bool) → eqb (listAnswer input .number) 0 ≡ b → length (listedWords input) ≤ 2048
       by true e =
           let h = eqb-true (listAnswer input .number) 0 e in
-          omega (arith, ap length (listed-taken h), accepted (countOf input) (planOf input) (measured (countOf input) (planOf input)) (taken input h) .short)
+          omega (arith, ap length (listed-taken h), accepted (countOf input) (planRead input) (measured (countOf input) (planRead input)) (taken input h) .short)
       by false e = omega (arith, ap length (listed-none (eqb-false (listAnswer input .number) 0 e)))
 
 -- ---- what a piece comes to

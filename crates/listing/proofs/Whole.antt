@@ -16,7 +16,7 @@ use Rattle.checks.specs.Answers.{firstOf}
 use Rattle.checks.proofs.Checked.{plan-check}
 use Rattle.translation.specs.Calls.{planFor, measured, measureAnswer}
 use Rattle.translation.proofs.Counted.{accepted}
-use Rattle.listing.specs.Sharelist.{listAnswer, countOf, planOf, listing}
+use Rattle.listing.specs.Sharelist.{listAnswer, countOf, planRead, listing}
 use Rattle.text.specs.Lines.{hexLines, firstLine, refusedLine}
 use Rattle.listing.specs.Pieces.{linesOf, listedWords, headOf, PiecesAreListing}
 use Rattle.text.proofs.Hex.{lines-append}
@@ -50,12 +50,12 @@ pieces-are-listing room r input = pieces-whole room r input ∙ by (eqb (listAns
   where
     by : (b : Bool) → eqb (listAnswer input .number) 0 ≡ b
         → headOf input ++ linesOf (countOf input) (listedWords input)
-        ≡ cond b (firstLine (countOf input) (listAnswer input .words) (listAnswer input .tape) ++ hexLines (program (countOf input) (planOf input))) (refusedLine (listAnswer input .number))
+        ≡ cond b (firstLine (countOf input) (listAnswer input .words) (listAnswer input .tape) ++ hexLines (program (countOf input) (planRead input))) (refusedLine (listAnswer input .number))
     by true e =
         let h = eqb-true (listAnswer input .number) 0 e in
         let n = countOf input in
-        let A = accepted n (planOf input) (measured n (planOf input)) (taken input h) in
-        rw (head-taken input h, listed-taken input h, lines-whole n (planOf input) A)
+        let A = accepted n (planRead input) (measured n (planRead input)) (taken input h) in
+        rw (head-taken input h, listed-taken input h, lines-whole n (planRead input) A)
     by false e =
         let h = eqb-false (listAnswer input .number) 0 e in
         rw (head-refused input h, listed-none input h) (append-nil (refusedLine (listAnswer input .number)))

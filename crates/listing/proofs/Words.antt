@@ -6,7 +6,7 @@ use native.Mathlib.Nat.{add-zero}
 use native.Mathlib.Omega.{arith}
 use lib.ListN.{length, drop, getD, set, length-drop}
 use lib.Seq.{getD-drop, drop-drop}
-use Rattle.listing.specs.Sharelist.{wordsOf, countOf, planOf}
+use Rattle.listing.specs.Sharelist.{wordsOf, countOf, planRead}
 use Rattle.text.specs.Writing.{Appends}
 use Rattle.text.proofs.Placed.{Left, renamed, part, whole}
 
@@ -44,18 +44,18 @@ count-first [] = refl
 count-first (n ∷ rest) = refl
 
 -- the plan is what stands behind it
-pub plan-behind : (input : List ℕ) → planOf input ≡ wordsOf (drop 1 input)
+pub plan-behind : (input : List ℕ) → planRead input ≡ wordsOf (drop 1 input)
 plan-behind [] = refl
 plan-behind (n ∷ rest) = refl
 
-pub plan-count : (input : List ℕ) → length (planOf input) ≡ (length input - 1) / 4
+pub plan-count : (input : List ℕ) → length (planRead input) ≡ (length input - 1) / 4
 plan-count input = ap length (plan-behind input) ∙ words-count (drop 1 input) ∙ ap (λ (k : ℕ). k / 4) (length-drop 1 input)
 
 -- one more word stands in the plan
-pub words-on : (input : List ℕ) {plan₀ plan : List ℕ} (i : ℕ) {w : ℕ} → Left (planOf input) plan₀ 0 (wordsOf (drop (1 + 4 * i) input)) plan i
+pub words-on : (input : List ℕ) {plan₀ plan : List ℕ} (i : ℕ) {w : ℕ} → Left (planRead input) plan₀ 0 (wordsOf (drop (1 + 4 * i) input)) plan i
     → 1 + 4 * i + 4 ≤ length input
     → w ≡ getD input (1 + 4 * i) 0 + 256 * getD input (1 + 4 * i + 1) 0 + 65536 * getD input (1 + 4 * i + 2) 0 + 16777216 * getD input (1 + 4 * i + 3) 0
-    → Left (planOf input) plan₀ 0 (wordsOf (drop (1 + 4 * (i + 1)) input)) (set plan i w) (i + 1)
+    → Left (planRead input) plan₀ 0 (wordsOf (drop (1 + 4 * (i + 1)) input)) (set plan i w) (i + 1)
 words-on input i {w} l h e =
     let k : 1 + 4 * i + 4 ≡ 1 + 4 * (i + 1) = omega arith in
     part (w ∷ []) (wordsOf (drop (1 + 4 * (i + 1)) input))
@@ -63,6 +63,6 @@ words-on input i {w} l h e =
     (record { written = refl; ends = refl })
 
 -- all words stand there
-pub words-done : (input : List ℕ) {plan₀ plan : List ℕ} (i : ℕ) → Left (planOf input) plan₀ 0 (wordsOf (drop (1 + 4 * i) input)) plan i
-    → length input ≤ 1 + 4 * i + 3 → Appends (planOf input) plan₀ 0 plan i
+pub words-done : (input : List ℕ) {plan₀ plan : List ℕ} (i : ℕ) → Left (planRead input) plan₀ 0 (wordsOf (drop (1 + 4 * i) input)) plan i
+    → length input ≤ 1 + 4 * i + 3 → Appends (planRead input) plan₀ 0 plan i
 words-done input i l h = whole (renamed (words-short (drop (1 + 4 * i) input) (omega (arith, length-drop (1 + 4 * i) input))) l)

@@ -11,7 +11,7 @@ use Rattle.text.specs.Lines.{hexLines, firstLine, refusedLine}
 use Rattle.text.specs.Writing.{fitting, Wrote}
 use Rattle.masking.specs.Translation.{program}
 use Rattle.translation.specs.Calls.{measureAnswer}
-use Rattle.listing.specs.Sharelist.{listAnswer, countOf, planOf, listing}
+use Rattle.listing.specs.Sharelist.{listAnswer, countOf, planRead, listing}
 
 -- the lines of one plan word; none where Measure turns the word down
 unfoldable pub wordLines : ℕ → ℕ → List ℕ
@@ -31,7 +31,7 @@ abbrev pub fitCount : ℕ → List ℕ → ℕ → ℕ
 fitCount n [] room = 0
 fitCount n (w ∷ ws) room = cond (ltb room wordBytes) 0 (suc (fitCount n ws (room - length (wordLines n w))))
 
--- a part of the listing: the lines of the plan's words from one on, as many as fit, with the next word's number
+-- a part of the listing: the lines of the plan's words from one on, as many as `fitCount` says, with the next word's number
 pub record ListsPart (n : ℕ) (plan : List ℕ) (from : ℕ) (out after : List ℕ) (next bytes : ℕ) : Type 0 where
   pub moved : next ≡ from + fitCount n (drop from plan) (length out)
   pub lines : Wrote (linesOf n (take (fitCount n (drop from plan) (length out)) (drop from plan))) out after bytes
@@ -40,7 +40,7 @@ pub record ListsPart (n : ℕ) (plan : List ℕ) (from : ℕ) (out after : List 
 
 -- the plan words that are listed: none where the input is turned down
 unfoldable pub listedWords : List ℕ → List ℕ
-listedWords input = keptUnless (eqb (listAnswer input .number) 0) (planOf input) []
+listedWords input = keptUnless (eqb (listAnswer input .number) 0) (planRead input) []
 
 -- the first line, or that of the turn-down
 unfoldable pub headOf : List ℕ → List ℕ
@@ -49,7 +49,7 @@ headOf input =
     (firstLine (countOf input) (listAnswer input .words) (listAnswer input .tape))
     (refusedLine (listAnswer input .number))
 
--- how many words piece k + 1 lists into `room` bytes: as many as fit, from word k on
+-- how many words piece k + 1 lists into `room` bytes, from word k on
 abbrev pub pieceCount : ℕ → List ℕ → ℕ → ℕ
 pieceCount room input k = fitCount (countOf input) (drop k (listedWords input)) room
 
@@ -64,7 +64,7 @@ unfoldable pub wordsListed : ℕ → List ℕ → ℕ → ℕ
 wordsListed room input zero = 0
 wordsListed room input (suc k) = k + pieceCount room input k
 
--- the piece that goes on from there; where there is no room for a word, and past the last word, the same piece again
+-- the piece that goes on from there, 1 behind piece 0; behind a later one that lists no word, the same piece again
 abbrev pub pieceNext : ℕ → List ℕ → ℕ → ℕ
 pieceNext room input from = suc (wordsListed room input from)
 

@@ -34,15 +34,15 @@ abbrev pub countOf : List ℕ → ℕ
 countOf [] = 0
 countOf (n ∷ rest) = n
 
-abbrev pub planOf : List ℕ → List ℕ
-planOf [] = []
-planOf (n ∷ rest) = wordsOf rest
+abbrev pub planRead : List ℕ → List ℕ
+planRead [] = []
+planRead (n ∷ rest) = wordsOf rest
 
 -- all that it writes: the first line and a line for each word of the share program, or the refusal
 unfoldable pub listing : List ℕ → List ℕ
 listing input =
     cond (eqb (listAnswer input .number) 0)
-    (firstLine (countOf input) (listAnswer input .words) (listAnswer input .tape) ++ hexLines (program (countOf input) (planOf input)))
+    (firstLine (countOf input) (listAnswer input .words) (listAnswer input .tape) ++ hexLines (program (countOf input) (planRead input)))
     (refusedLine (listAnswer input .number))
 
 -- the document's example: bytes 02 01 00 08 20 give the lines "shares 2 words 2 tape 0", "20080001" and "20884021"

@@ -1,7 +1,7 @@
 // The input bytes of `sharelist`: the share count, then plan words.
 ghost use mathlib.Core.Path.{_≡_};
 ghost use Prim.Native.Nat.{_+_, _*_};
-ghost use Rattle.listing.specs.Sharelist.{countOf, listAnswer, planOf};
+ghost use Rattle.listing.specs.Sharelist.{countOf, listAnswer, planRead};
 ghost use Rattle.text.specs.Writing.{Wrote};
 use checks::answer::Answer;
 use checks::share_count::is_share_count;
@@ -31,7 +31,7 @@ pub fn share_count(input: &[u8]) -> usize
 
 // The plan's words at the front of `plan`, nothing where they do not fit; the answer counts them.
 pub fn plan_words(input: &[u8], plan: &mut [u32]) -> usize
-    ensures { λ r. ⌜ Wrote (planOf (now (input .entry))) (now (plan .entry)) (now (plan .exit)) r ⌝ }
+    ensures { λ r. ⌜ Wrote (planRead (now (input .entry))) (now (plan .entry)) (now (plan .exit)) r ⌝ }
 {
     if input.len() == 0 {
         return 0;

@@ -38,7 +38,8 @@ pub struct Piece {
 }
 
 // One piece of the listing of an input, by its number: 0 first, then each that the piece before it says is next, up to the last. Where
-// `out` has less room than any word's lines may take, no word is listed, and the piece's next is itself.
+// `out` has less room than any word's lines may take, no word is listed, and the next of a
+// piece behind 0 is itself; a first line that does not fit is not written.
 pub fn list_piece(input: &[u8], from: usize, out: &mut [u8]) -> Piece
     ensures { λ r. ⌜ ListsPiece (now (input .entry)) from (now (out .entry)) (now (out .exit)) (r .bytes) (r .next) (r .last) ⌝ }
 {

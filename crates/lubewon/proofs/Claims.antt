@@ -20,6 +20,7 @@ use Rattle.splitting.proofs.SplitJoin as splitting
 use Rattle.listing.proofs.Whole as listing
 use Rattle.listing.proofs.Example as listed
 use Rattle.lubewon.specs.Claims.{Claims}
+use Rattle.lubewon.proofs.TurnDowns as turned-down
 
 pub claims : Claims
 claims =
@@ -46,4 +47,5 @@ claims =
       example = listed.example;
       word-examples = plain-examples.word-examples;
       translation-examples = examples.translation-examples;
+      turn-downs = turned-down.turn-downs;
     }

@@ -1,3 +1,6 @@
--- The root of what is claimed, proved (Claims), and its statements taken apart (Parts).
+-- The root of what is claimed, proved (Claims), with the examples of turn-downs (TurnDowns); its statements once more at their arguments
+-- (Statements), and taken apart (Parts).
 pub mod Claims
 pub mod Parts
+pub mod Statements
+pub mod TurnDowns

@@ -33,6 +33,7 @@ use Rattle.plans.specs.Cost.{Cost, Figures}
 use Rattle.plans.specs.BuiltIns.{BuiltIn}
 use Rattle.operations.specs.Masked.{Operand, StepSecret, WholeRun, OnShares}
 use Rattle.splitting.specs.SplitJoin.{SplitJoins}
+use Rattle.lubewon.specs.TurnDowns.{TurnDowns}
 
 of-parts : {rule : Step → Bool} {w : ℕ} → OfParts rule w → OfParts rule w
 of-parts h = record { step = h .step; apart = h .apart; inRange = h .inRange; together = h .together }
@@ -52,6 +53,10 @@ first-bad h = record { within = h .within; good = h .good; bad = h .bad }
 laws : Laws → Laws
 laws h = record { one = h .one; append = h .append; empty = h .empty; size = h .size; words = h .words }
 
+turn-downs : TurnDowns → TurnDowns
+turn-downs h =
+    record { nine-shares = h .nine-shares; long-plan = h .long-plan; kind-0 = h .kind-0; cells-511 = h .cells-511; place-3 = h .place-3; empty-tape = h .empty-tape }
+
 start : {cells : List ℕ} → Start cells → Start cells
 start h = record { size = h .size; words = h .words }
 
@@ -65,7 +70,7 @@ plan-counts : {n : ℕ} {plan : List ℕ} → PlanCounts n plan → PlanCounts n
 plan-counts h = record { words = h .words; tape = h .tape; good = h .good; longest = h .longest }
 
 counts : Counts → Counts
-counts h = record { step = h .step; plan = h .plan; at-2 = h .at-2; at-8 = h .at-8 }
+counts h = record { step = h .step; plan = h .plan; at-2 = h .at-2; at-8 = h .at-8; limit = h .limit }
 
 tape : {L : ℕ} {tape : List ℕ} → Tape L tape → Tape L tape
 tape h = record { size = h .size; words = h .words }

@@ -1,5 +1,6 @@
 -- Every top statement of the library, in one record: the root of what is claimed. `claims`, in proofs/, proves it, so that a statement that is
--- lost fails the gate; proofs/Parts does so for the parts of each statement. docs/CLAIMS.md maps the sentences of document 01 to these fields.
+-- lost fails the gate; proofs/Statements and proofs/Parts do so for one that is narrowed or halved. docs/CLAIMS.md maps the sentences of document
+-- 01 to these fields.
 use Rattle.bits.specs.Adder.{AdderAdds}
 use Rattle.word.specs.Parts.{WordsExact}
 use Rattle.checks.specs.Answers.{FirstBadFound}
@@ -19,9 +20,10 @@ use Rattle.operations.specs.Masked.{Masked}
 use Rattle.splitting.specs.SplitJoin.{SplitJoins}
 use Rattle.listing.specs.Sharelist.{ExampleListed}
 use Rattle.listing.specs.Pieces.{PiecesAreListing}
+use Rattle.lubewon.specs.TurnDowns.{TurnDowns}
 
 pub record Claims : Type 0 where
-  -- step words: taken apart and put together; the first bad word; the plain machine; the adder's steps add
+  -- step words: taken apart and put together; the first bad word; the plain machine; the adder on unsplit words adds (`demand3` has it on shares)
   pub words-exact : WordsExact
   pub first-bad : FirstBadFound
   pub plain-machine : Laws
@@ -30,7 +32,7 @@ pub record Claims : Type 0 where
   pub counts : Counts
   pub demand3 : Demand3Holds
   pub translate-tied : TranslateTied
-  -- and that an AND without its refresh has no such secrecy
+  -- and that an AND on two shares without its refresh has no such secrecy
   pub unrefreshed-leaks : UnrefreshedLeaks
   -- numbers: what rounding and floor mean, where the results are IEEE 754's, the corners, the table of edges
   pub rounding-means : RoundingMeans
@@ -44,9 +46,10 @@ pub record Claims : Type 0 where
   pub built-ins : BuiltIns
   pub masked : Masked
   pub split-joins : SplitJoins
-  -- the listing, and document 01's example of it
+  -- the listing in the pieces that `list_piece` writes, and document 01's example of it
   pub pieces-are-listing : PiecesAreListing
   pub example : ExampleListed
-  -- worked examples of words, plans and translations
+  -- worked examples of words, plans and translations, and of each turn-down
   pub word-examples : WordExamples
   pub translation-examples : TranslationExamples
+  pub turn-downs : TurnDowns

@@ -49,3 +49,5 @@ pub record Counts : Type 0 where
   -- "At n = 2: AND 16 words and 2 tape words, ADD 234 and 24. At n = 8: 304 and 56, 3,816 and 672."
   pub at-2 : (lengthOf 3 2 ≡ 16) × (tapeOf 3 2 ≡ 2) × (lengthOf 8 2 ≡ 234) × (tapeOf 8 2 ≡ 24)
   pub at-8 : (lengthOf 3 8 ≡ 304) × (tapeOf 3 8 ≡ 56) × (lengthOf 8 8 ≡ 3816) × (tapeOf 8 8 ≡ 672)
+  -- "A share program has 0..7,815,168 words"
+  pub limit : programMax ≡ 7815168

@@ -1,5 +1,5 @@
--- Document 01's cut "AND without the refresh: with a = b, u holds two shares of one number": for either share there are two starts that agree
--- in it and whose words at u differ over all tapes, so that no pairing of tapes hides that step. So Secrecy is no empty demand.
+-- Document 01's cut "AND without the refresh: with a = b, u holds two shares of one number", for two shares: for either there are two starts
+-- that agree in it and whose words at u differ over any two tapes, paired or not. So Secrecy is no empty demand.
 use mathlib.Core.Path.{_≡_}
 use mathlib.Core.List.{List, [], _∷_}
 use Prim.Native.Nat.{ℕ}

@@ -1,5 +1,5 @@
 -- Share programs: the translation (Translation), the counts foretold (Foretold), the share machine (Machine), share runs in a row
--- (Runs), the unsplit machine (Unsplit), and the statements proved of them: counts (Counts), secrecy (Secrecy), demand 3 (Demand3), that
+-- (Runs), what shares join to (Unsplit), and the statements proved of them: counts (Counts), secrecy (Secrecy), demand 3 (Demand3), that
 -- AND needs its refresh (Leaks), and worked examples (Examples).
 pub mod Translation
 pub mod Foretold

@@ -86,7 +86,7 @@ andBlock c n d a b =
     ++ map (λ i. Shl (d i) (c .z i) 0) (shares n))))
 
 -- share i's step of a step on registers. "CONST: share 0 gets k, the others 0. NOT: share 0 inverted, the others copied by SHL 0. XOR, SHL,
--- SHR, SPREAD: once per share." AND, ADD and RAND have none.
+-- SHR, SPREAD: once per share." AND and ADD have blocks of their own and RAND is no step of plans: what stands there is not used.
 abbrev pub shareStep : Step → ℕ → Step
 shareStep (Const d k) i = firstOther i (Const (shareCell i d) k) (Const (shareCell i d) 0)
 shareStep (Xor d a b) i = Xor (shareCell i d) (shareCell i a) (shareCell i b)

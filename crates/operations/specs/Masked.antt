@@ -51,7 +51,8 @@ pub record WholeRun (plan : List ℕ) (n : ℕ) (x y tape : List ℕ) : Type 0 w
 abbrev pub RunsWhole : List ℕ → Type 0
 RunsWhole plan = (n : ℕ) → 2 ≤ n → n ≤ 8 → (x y tape : List ℕ) → WholeRun plan n x y tape
 
--- what is proved of an operation on shares, over its plan and the operation on words: with one operand, the other is zeros
+-- what is proved of an operation on shares, over its plan and the operation on words; one with a single operand does not
+-- look at the second, which its call sets to zeros
 pub record OnShares (plan : List ℕ) (op : ℕ → ℕ → ℕ) : Type 0 where
   pub run : RunsWhole plan
   pub joins : Joins plan op

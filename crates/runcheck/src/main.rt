@@ -54,39 +54,52 @@ fn join_all(cells: &[u64], n: usize, out: &mut [u64]) {
     }
 }
 
+// A label and a number.
+fn noted(label: &[u8], n: u64) {
+    io::write_all(STDOUT_FILENO, label);
+    io::print_decimal(STDOUT_FILENO, n);
+}
+
 fn line(n: usize, words: usize, tape: usize, split: u64, plain: u64) {
-    io::write_all(STDOUT_FILENO, b"n ");
-    io::print_decimal(STDOUT_FILENO, n as u64);
-    io::write_all(STDOUT_FILENO, b" words ");
-    io::print_decimal(STDOUT_FILENO, words as u64);
-    io::write_all(STDOUT_FILENO, b" tape ");
-    io::print_decimal(STDOUT_FILENO, tape as u64);
-    io::write_all(STDOUT_FILENO, b" cells that differ ");
-    io::print_decimal(STDOUT_FILENO, split);
-    io::write_all(STDOUT_FILENO, b" registers that differ ");
-    io::print_decimal(STDOUT_FILENO, plain);
+    noted(b"n ", n as u64);
+    noted(b" words ", words as u64);
+    noted(b" tape ", tape as u64);
+    noted(b" cells that differ ", split);
+    noted(b" registers that differ ", plain);
     io::write_all(STDOUT_FILENO, b"\n");
+}
+
+// The cells that differ from runs in a row over the same start.
+fn split_off(n: usize, program: &[u32], tape: &[u64], whole: &[u64]) -> u64 {
+    let mut parts = [0u64; 512];
+    drawn::fill(n as u64, &mut parts);
+    running::in_a_row::runs_in_a_row(program, 0, tape, 0, &BUDGETS, &mut parts);
+    different(whole, &parts)
+}
+
+// The registers that join to something else than the plan gives unsplit.
+fn plain_off(n: usize, whole: &[u64]) -> u64 {
+    let mut start = [0u64; 512];
+    drawn::fill(n as u64, &mut start);
+    let mut plain = [0u64; 32];
+    join_all(&start, n, &mut plain);
+    plain::plain_run(&PLAN, &mut plain);
+    let mut after = [0u64; 32];
+    join_all(whole, n, &mut after);
+    different(&plain, &after)
 }
 
 // One share count: a run in a go, the same in a row, and the plan unsplit.
 fn compare(n: usize, program: &[u32], tape: &[u64], words: usize) {
     let mut whole = [0u64; 512];
     drawn::fill(n as u64, &mut whole);
-    let mut parts = [0u64; 512];
-    drawn::fill(n as u64, &mut parts);
-    let mut plain = [0u64; 32];
-    join_all(&whole, n, &mut plain);
     let answer = running::run::share_run(program, 0, tape, 0, words, &mut whole);
-    running::in_a_row::runs_in_a_row(program, 0, tape, 0, &BUDGETS, &mut parts);
-    plain::plain_run(&PLAN, &mut plain);
-    let mut after = [0u64; 32];
-    join_all(&whole, n, &mut after);
     line(
         n,
         answer.words,
         answer.tape,
-        different(&whole, &parts),
-        different(&plain, &after),
+        split_off(n, program, tape, &whole),
+        plain_off(n, &whole),
     );
 }
 

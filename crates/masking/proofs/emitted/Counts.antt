@@ -139,4 +139,4 @@ plan-counts n plan A =
 
 pub counts : Counts
 unfolding lengthOf tapeOf
-counts = record { step = step-counts; plan = plan-counts; at-2 = (refl, refl, refl, refl); at-8 = (refl, refl, refl, refl) }
+counts = record { step = step-counts; plan = plan-counts; at-2 = (refl, refl, refl, refl); at-8 = (refl, refl, refl, refl); limit = refl }

@@ -6,7 +6,7 @@ use Prim.Native.Nat.{ℕ, _^_, _<_}
 use native.Mathlib.Omega.{arith}
 use lib.Dec.{T}
 use Rattle.bits.specs.Ops.{xorW, andW, shlW, addW}
-use Rattle.bits.specs.Adder.{Carry, round, rounds, entered, adder}
+use Rattle.bits.specs.Adder.{Carry, carryRound, carryRounds, entered, adder}
 use Rattle.bits.proofs.Adder.{adder-sum}
 use Rattle.word.specs.declared.step.Step.{Step}
 use Rattle.word.specs.declared.step.Step.the-variants.{Xor, And, Shl}
@@ -44,14 +44,14 @@ entered-holds R a b la lb =
 
 module _ (R₀ : Cells) (H k : ℕ) where
   -- G's half of a round
-  generated-g : (R : Cells) (c : Carry) → Holds R₀ R H c → unsplitOn (generated k) R rG ≡ round k c .G
+  generated-g : (R : Cells) (c : Carry) → Holds R₀ R H c → unsplitOn (generated k) R rG ≡ carryRound k c .G
   unfolding upd
   generated-g R c q = ap₂ (λ (x y : ℕ). xorW x (andW y (shlW x k))) (q .g) (q .p)
 
   generated-off : (R : Cells) (r : ℕ) → (r ≡ rG → ⊥) → (r ≡ rT → ⊥) → unsplitOn (generated k) R r ≡ R r
   generated-off R r g t = unsplit-off (generated k) R r (t, (t, (g, tt)))
 
-  round-holds : (R : Cells) (c : Carry) → Holds R₀ R H c → Holds R₀ (unsplitOn (passed k) (unsplitOn (generated k) R)) H (round k c)
+  round-holds : (R : Cells) (c : Carry) → Holds R₀ R H c → Holds R₀ (unsplitOn (passed k) (unsplitOn (generated k) R)) H (carryRound k c)
   unfolding upd
   round-holds R c q =
       record {
@@ -78,7 +78,7 @@ module _ (R : Cells) (d a b : ℕ) (la : a < 32) (lb : b < 32) where
   unfolding adding
   laid-out = refl
 
-  holds : Holds R before32 (xorW (R a) (R b)) (rounds (1 ∷ 2 ∷ 4 ∷ 8 ∷ 16 ∷ []) (entered (R a) (R b)))
+  holds : Holds R before32 (xorW (R a) (R b)) (carryRounds (1 ∷ 2 ∷ 4 ∷ 8 ∷ 16 ∷ []) (entered (R a) (R b)))
   holds =
       let H = xorW (R a) (R b) in
       round-holds R H 16 _ _ (round-holds R H 8 _ _ (round-holds R H 4 _ _ (round-holds R H 2 _ _ (round-holds R H 1 _ _ (entered-holds R a b la lb)))))

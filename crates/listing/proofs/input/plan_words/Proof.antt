@@ -1,7 +1,7 @@
 -- `listing::input::plan_words` meets its contract.
 use Rattle.listing.proofs.Words.{words-on, words-done, plan-behind, plan-count, words-short}
 use Rattle.text.proofs.Placed.{Left, start, renamed, wrote, wrote-none, wrote-empty}
-use Rattle.listing.specs.Sharelist.{wordsOf, planOf}
+use Rattle.listing.specs.Sharelist.{wordsOf, planRead}
 use borrow.Author.Needs.{needs}
 use denote.Ref.{now}
 use lib.ListN.{length, drop, length-drop}
@@ -12,7 +12,7 @@ use Rattle.listing.proofs.input.plan_words.Statement.{statement}
 use Rattle.listing.proofs.input.plan_words.Tie as tie
 
 abbrev Inv-loop : tie.InvT-loop
-Inv-loop input plan₀ count i₀ plan i = (i ≤ count) × (count ≡ (length input - 1) / 4) × (count ≤ length plan₀) × Left (planOf input) plan₀ 0 (wordsOf (drop (1 + 4 * i) input)) plan i
+Inv-loop input plan₀ count i₀ plan i = (i ≤ count) × (count ≡ (length input - 1) / 4) × (count ≤ length plan₀) × Left (planRead input) plan₀ 0 (wordsOf (drop (1 + 4 * i) input)) plan i
 
 abbrev μ-loop : tie.MeasureT-loop
 μ-loop input plan₀ count i₀ plan i = count - i

@@ -1,0 +1,165 @@
+-- Each claim once more, at its arguments and with every condition written out: a statement that is narrowed, or that asks for more, fails here.
+-- Parts does this for the records inside the statements.
+use mathlib.Core.Path.{_≡_, refl}
+use mathlib.Core.Logic.{_⊎_}
+use mathlib.Core.List.{List}
+use lib.Dec.{T}
+use Prim.Native.Nat.{ℕ, _+_, _*_, _^_, _≤_, _<_}
+use lib.Ieee.{binary64, ofBits, toBits, mul, add}
+use lib.ListN.{length, getD}
+use Rattle.bits.specs.Ops.{addW}
+use Rattle.bits.specs.Adder.{adder}
+use Rattle.word.specs.declared.step.Step.{Step}
+use Rattle.word.specs.declared.step.Decoded.{Decoded}
+use Rattle.word.specs.Encoding.{planStep, inPlan, inProgram}
+use Rattle.word.specs.Parts.{OfParts, OfNone}
+use Rattle.checks.specs.Answers.{FirstBad, firstBad}
+use Rattle.masking.specs.Translation.{program}
+use Rattle.masking.specs.Foretold.{Accepted, foretoldTape, foretoldWords}
+use Rattle.masking.specs.Machine.{Start}
+use Rattle.masking.specs.Counts.{StepCounts, PlanCounts}
+use Rattle.masking.specs.Secrecy.{Secret, Hidden}
+use Rattle.masking.specs.Demand3.{InARow}
+use Rattle.masking.specs.Leaks.{Leak}
+use Rattle.translation.specs.Calls.{measured, translateAnswer}
+use Rattle.translation.specs.Tied.{Tied}
+use Rattle.binary64.specs.Number.{sign, expo, frac, magnitude}
+use Rattle.binary64.specs.Rounding.{magBits}
+use Rattle.binary64.specs.Product.{product}
+use Rattle.binary64.specs.Sum.{sum}
+use Rattle.binary64.specs.Floor.{floor}
+use Rattle.binary64.specs.Ieee.{exactSum}
+use Rattle.binary64.specs.Meaning.{Rounded, GreatestWhole}
+use Rattle.binary64.specs.Edges.{edges}
+use Rattle.binary64.specs.Operations.{Product, Sum, Floor}
+use Rattle.plans.specs.ProductPlan.{productPlan}
+use Rattle.plans.specs.SumPlan.{sumPlan}
+use Rattle.plans.specs.FloorPlan.{floorPlan}
+use Rattle.plans.specs.Computes.{Computes}
+use Rattle.operations.specs.Shares.{callAnswer, resultAfter, resultShares}
+use Rattle.operations.specs.Masked.{WholeRun, StepSecret, OnShares}
+use Rattle.splitting.specs.SplitJoin.{xorAll, splitOf, splitAnswer, splitOut, joinedWord}
+use Rattle.listing.specs.Sharelist.{listing}
+use Rattle.listing.specs.Pieces.{piecesFrom}
+use Rattle.lubewon.specs.Claims.{Claims}
+
+-- a plan that is accepted, and a start, need no more than this
+accept : {n : ℕ} {plan : List ℕ} → 2 ≤ n → n ≤ 8 → length plan ≤ 2048 → firstBad planStep plan ≡ length plan → Accepted n plan
+accept l m s g = record { least = l; most = m; short = s; good = g }
+
+begin : {cells : List ℕ} → length cells ≡ 512 → ((k : ℕ) → getD cells k 0 < 2 ^ 64) → Start cells
+begin s w = record { size = s; words = w }
+
+-- an operand that both read alike
+abbrev Alike : ℕ → Type 0
+Alike a = ((expo a ≡ 0) × (frac a ≡ 0)) ⊎ ((1 ≤ expo a) × (expo a ≤ 2046))
+
+-- what is said of an operation on shares
+module _ {plan : List ℕ} {op : ℕ → ℕ → ℕ} (O : OnShares plan op) where
+  whole : (n : ℕ) → 2 ≤ n → n ≤ 8 → (x y tape : List ℕ) → WholeRun plan n x y tape
+  whole = O .run
+
+  result : (n : ℕ) → 2 ≤ n → n ≤ 8 → (x y tape : List ℕ) → length x ≡ n → length y ≡ n
+      → ((k : ℕ) → getD x k 0 < 2 ^ 64) → ((k : ℕ) → getD y k 0 < 2 ^ 64) → ((k : ℕ) → getD tape k 0 < 2 ^ 64)
+      → foretoldTape n plan ≤ length tape → xorAll (resultShares plan n x y tape) ≡ op (xorAll x) (xorAll y)
+  result n l m x y tape sx sy wx wy wt = O .joins n l m x y tape (record { size = sx; words = wx }) (record { size = sy; words = wy }) wt
+
+  called : (x y result work tape : List ℕ)
+      → ((k : ℕ) → getD x k 0 < 2 ^ 64) → ((k : ℕ) → getD y k 0 < 2 ^ 64) → ((k : ℕ) → getD tape k 0 < 2 ^ 64)
+      → callAnswer plan x y result work tape .number ≡ 0 → xorAll (resultAfter plan x y result work tape) ≡ op (xorAll x) (xorAll y)
+  called = O .call
+
+  steps : (n : ℕ) → 2 ≤ n → n ≤ 8 → (s : ℕ) → s < length (program n plan) → StepSecret plan n s
+  steps = O .secret
+
+module _ (C : Claims) where
+  apart-plans : (w : ℕ) → w < 2 ^ 32 → OfParts inPlan w ⊎ OfNone inPlan w
+  apart-plans = C .words-exact .plans .every
+
+  apart-programs : (w : ℕ) → w < 2 ^ 32 → OfParts inProgram w ⊎ OfNone inProgram w
+  apart-programs = C .words-exact .programs .every
+
+  found : (step : ℕ → Decoded) (l : List ℕ) → FirstBad step l (firstBad step l)
+  found = C .first-bad
+
+  adds : (a b : ℕ) → a < 2 ^ 64 → b < 2 ^ 64 → adder a b ≡ addW a b
+  adds = C .adder
+
+  step-counted : (n : ℕ) → 2 ≤ n → n ≤ 8 → (s : Step) → T (inPlan s) → StepCounts n s
+  step-counted = C .counts .step
+
+  plan-counted : (n : ℕ) (plan : List ℕ) → Accepted n plan → PlanCounts n plan
+  plan-counted = C .counts .plan
+
+  -- demand 3: both halves, for all that it is about
+  runs : (n : ℕ) (plan : List ℕ) → Accepted n plan → (start tape : List ℕ) → Start start → ((k : ℕ) → getD tape k 0 < 2 ^ 64)
+      → (place : ℕ) → place ≤ length tape → (budgets : List ℕ) → InARow n plan start tape place budgets
+  runs n plan A = C .demand3 n plan A .runs
+
+  secret : (n : ℕ) (plan : List ℕ) → Accepted n plan → (s : ℕ) → s < length (program n plan) → Secret n plan s
+  secret n plan A = C .demand3 n plan A .secret
+
+  hidden : {n : ℕ} {plan : List ℕ} {s : ℕ} (S : Secret n plan s) (l l′ : List ℕ) → Start l → Start l′
+      → ((r : ℕ) → r < 32 → getD l (32 * S .share + r) 0 ≡ getD l′ (32 * S .share + r) 0) → Hidden n plan s l l′
+  hidden S = S .hidden
+
+  translated : (n : ℕ) (plan out : List ℕ) → translateAnswer n plan (length out) .number ≡ 0 → Tied n plan out
+  translated = C .translate-tied .done
+
+  taken : (n : ℕ) (plan : List ℕ) (room : ℕ) → Accepted n plan → foretoldWords n plan ≤ room → translateAnswer n plan room ≡ measured n plan
+  taken = C .translate-tied .takes
+
+  leaks : Leak 0 × Leak 1
+  leaks = C .unrefreshed-leaks
+
+  rounded : (u M : ℕ) → 52 ≤ u → 2 ^ u ≤ M → Rounded u M (magBits u M)
+  rounded = C .rounding-means
+
+  floored : (a : ℕ) → a < 2 ^ 64 → (sign a ≡ 1 → magnitude a ≡ 0 → ⊥) → GreatestWhole a (floor a)
+  floored = C .floor-means
+
+  minus-one : (a : ℕ) → a < 2 ^ 64 → sign a ≡ 1 → magnitude a ≡ 0 → floor a ≡ 0xBFF0000000000000
+  minus-one = C .floor-minus-zero .2
+
+  -- IEEE 754's, for operands that are zeros or normal numbers, wherever the exact result is zero or not below 2^-1022
+  product-ieee : (a b : ℕ) → a < 2 ^ 64 → b < 2 ^ 64 → Alike a → Alike b
+      → (magnitude a * magnitude b ≡ 0) ⊎ (2 ^ 1126 ≤ magnitude a * magnitude b)
+      → product a b ≡ toBits binary64 (mul binary64 (ofBits binary64 a) (ofBits binary64 b))
+  product-ieee = C .product-is-ieee
+
+  sum-ieee : (a b : ℕ) → a < 2 ^ 64 → b < 2 ^ 64 → Alike a → Alike b → (exactSum a b ≡ 0) ⊎ (2 ^ 52 ≤ exactSum a b)
+      → sum a b ≡ toBits binary64 (add binary64 (ofBits binary64 a) (ofBits binary64 b))
+  sum-ieee = C .sum-is-ieee
+
+  -- the table has twelve rows
+  rows : length edges ≡ 12
+  unfolding edges
+  rows = refl
+
+  -- every operation's plan, and the operation on shares
+  product-plan : Computes productPlan product
+  product-plan = C .built-ins Product .computes
+
+  sum-plan : Computes sumPlan sum
+  sum-plan = C .built-ins Sum .computes
+
+  floor-plan : Computes floorPlan (λ a b. floor a)
+  floor-plan = C .built-ins Floor .computes
+
+  product-shares : OnShares productPlan product
+  product-shares = C .masked Product
+
+  sum-shares : OnShares sumPlan sum
+  sum-shares = C .masked Sum
+
+  floor-shares : OnShares floorPlan (λ a b. floor a)
+  floor-shares = C .masked Floor
+
+  split : (word : ℕ) (masks : List ℕ) → xorAll (splitOf word masks) ≡ word
+  split = C .split-joins .shares
+
+  split-call : (word : ℕ) (tape out : List ℕ) → splitAnswer (length out) (length tape) .number ≡ 0 → joinedWord (splitOut word tape out) ≡ word
+  split-call = C .split-joins .calls
+
+  pieces : (room : ℕ) → 34344 ≤ room → (input : List ℕ) → piecesFrom 2049 room input 0 ≡ listing input
+  pieces = C .pieces-are-listing
