@@ -1,17 +1,41 @@
-/* Lubewon: masked FALCON arithmetic, proved. The C declarations of crate `lubewon`.
+/* Lubewon: masked FALCON arithmetic, proved. The C declarations of crate `lubewon`; nothing but the C test holds them to it.
  *
- * Every call answers every input. `number` is 0 for done, else the number of the turn-down, the first of these that applies:
+ * NUMBERS AND SHARES. A number is 64 bits, IEEE 754 binary64's sign, exponent E and fraction F; see lubewon_product for how it is read. It is
+ * split into n shares, 2 to 8 words whose exclusive-or is the number; which word is share i is its place in the slice. Calls on shares never
+ * put them together.
  *
- *   1  share count not 2..8
- *   2  plan longer than 2,048 words, or share program longer than 7,815,168
- *   3  a bad word; `place` is the first one's, from 0
- *   4  a slice of wrong length
- *   5  place past the end of program or tape
- *   6  tape too short
+ * ANSWERS. Every call answers every input. `number` is 0 for done, else the number of the turn-down, the first of these that applies:
  *
- * `place` is 0 for every other number. `words` and `tape` are the call's counts: zero when it is turned down, and zero where the call
- * names no such count. A call that is turned down changes no lent memory. A slice is a pointer and its length in elements; the pointer must not be NULL, not even where the length is 0,
- * and slices that are written must not overlap any other slice of the call. Nothing but the C test checks these declarations.
+ *   1  LUBEWON_SHARE_COUNT   share count not 2..8
+ *   2  LUBEWON_TOO_LONG      plan longer than 2,048 words, or share program longer than 7,815,168
+ *   3  LUBEWON_BAD_WORD      a bad word; `place` is the first one's, from 0
+ *   4  LUBEWON_WRONG_LENGTH  a slice of wrong length
+ *   5  LUBEWON_PAST_END      place past the end of program or tape (equal to its length is not past it)
+ *   6  LUBEWON_TAPE_SHORT    tape too short
+ *
+ * Each call below names those it can give. `place` is 0 for every other number. `words` and `tape` are the call's counts: zero when it is turned
+ * down, and zero where the call names no such count. A call that is turned down changes no lent memory.
+ *
+ * SLICES. A slice is a pointer and its length in elements. The pointer has its type's usual alignment and must not be NULL, not even where the
+ * length is 0. A slice that is written must not overlap any other slice of the call: a result that is also an operand, or a work slice
+ * that holds a share, is undefined, and nothing turns it down. Slices that are only read may overlap.
+ *
+ * TAPE. The caller lends random words, used in order from the start (share runs: from tape_place on). They must be uniform, fresh for every
+ * call, and never used twice, not by two calls and not by split and a call: two masks that are equal give the secret away. The answer's
+ * `tape` says how many were used.
+ *
+ * Calls keep no state and allocate nothing: they may run at once in several threads on slices of their own.
+ *
+ * STEP WORDS. Bits 31..28 kind, bit 27 zero, bits 26..18 d, 17..9 a, 8..0 b. Each sets cell d:
+ *
+ *   1 CONST   512 a + b, a number here            5 SHL     a shifted left by b, b a number 0..63
+ *   2 XOR     a exclusive-or b                    6 SHR     a shifted right by b, likewise
+ *   3 AND     a and b                             7 SPREAD  64 copies of a's lowest bit; b = 0
+ *   4 NOT     all bits of a inverted; b = 0       8 ADD     a + b modulo 2^64
+ *                                                 9 RAND    the next tape word; a = b = 0
+ *
+ * A plan has words of kinds 1 to 8 on registers 0..31, a share program words of kinds 1 to 7 and 9 on cells 0..511; every other word is bad. Share
+ * i of register r is cell 32 i + r; cells from 256 on are scratch. docs/PLANS.md shows how to write a plan.
  */
 #ifndef LUBEWON_H
 #define LUBEWON_H
@@ -22,6 +46,42 @@
 #ifdef __cplusplus
 extern "C" {
 #endif
+
+#define LUBEWON_VERSION "0.8"
+#define LUBEWON_VERSION_NUMBER 8
+
+/* Turn-downs. */
+enum {
+    LUBEWON_DONE = 0,
+    LUBEWON_SHARE_COUNT = 1,
+    LUBEWON_TOO_LONG = 2,
+    LUBEWON_BAD_WORD = 3,
+    LUBEWON_WRONG_LENGTH = 4,
+    LUBEWON_PAST_END = 5,
+    LUBEWON_TAPE_SHORT = 6
+};
+
+/* Limits and sizes. */
+#define LUBEWON_LEAST_SHARES 2
+#define LUBEWON_MOST_SHARES 8
+#define LUBEWON_REGISTERS 32
+#define LUBEWON_CELLS 512
+#define LUBEWON_WORK 512
+#define LUBEWON_PLAN_MAX 2048
+#define LUBEWON_PROGRAM_MAX 7815168
+
+/* The cell of share i of register r. */
+#define LUBEWON_CELL(i, r) (32 * (i) + (r))
+
+/* The words of the built-in plans, and the tape words that an operation takes on n shares. */
+#define LUBEWON_PRODUCT_PLAN 810
+#define LUBEWON_SUM_PLAN 300
+#define LUBEWON_FLOOR_PLAN 83
+#define LUBEWON_PRODUCT_TAPE(n) (89 * (n) * ((n) - 1))
+#define LUBEWON_SUM_TAPE(n) (81 * (n) * ((n) - 1))
+#define LUBEWON_FLOOR_TAPE(n) (23 * (n) * ((n) - 1))
+/* Split: n - 1. */
+#define LUBEWON_SPLIT_TAPE(n) ((n) - 1)
 
 typedef struct {
     uint32_t number;
@@ -38,25 +98,26 @@ typedef struct {
 /* Share words and tape words of a plan for n shares. Turn-downs 1, 2, 3. */
 lubewon_answer lubewon_measure(size_t n, const uint32_t *plan, size_t plan_len);
 
-/* The share program of a plan for n shares, at the front of out; out stays as it is past the program's end. 1 to 4: 4 where out is shorter
- * than measured. Counts are Measure's. */
+/* The share program of a plan for n shares, at the front of out; out stays as it is past the program's end. Turn-downs 1 to 4: 4 where out is
+ * shorter than measured. Counts are Measure's. */
 lubewon_answer lubewon_translate(size_t n, const uint32_t *plan, size_t plan_len, uint32_t *out, size_t out_len);
 
-/* A plan on exactly 32 plain cells. 2, 3, 4. No counts. */
+/* A plan on exactly 32 plain cells, its registers. Turn-downs 2, 3, 4. No counts. */
 lubewon_answer lubewon_plain_run(const uint32_t *plan, size_t plan_len, uint64_t *cells, size_t cells_len);
 
 /* A share program from place on, over a tape from tape_place on, on exactly 512 cells: does the smaller of budget and words left. words
- * counts the words done, tape the tape words used. 2 to 6: 5 where a place is past the end (equal to the length is allowed), 6 where those
- * words hold more RAND than tape remains. The whole program is checked first. */
+ * counts the words done, tape the tape words used: go on from place + words and tape_place + tape. Turn-downs 2 to 6: 6 where those words hold
+ * more RAND than tape remains. The whole program is checked first, each time. */
 lubewon_answer lubewon_share_run(const uint32_t *program, size_t program_len, size_t place, const uint64_t *tape, size_t tape_len,
                                  size_t tape_place, size_t budget, uint64_t *cells, size_t cells_len);
 
-/* One word of a share program, likewise. 3 to 6. */
+/* One word of a share program, likewise. Turn-downs 3 to 6. */
 lubewon_answer lubewon_one_share_step(uint32_t word, const uint64_t *tape, size_t tape_len, size_t tape_place, uint64_t *cells,
                                       size_t cells_len);
 
-/* Product, sum and floor of binary64 numbers on n shares, n the first operand's length, 2..8: y and result have n words, work 512. Work is
- * zeros afterwards. tape counts the tape words used, from the tape's start. 1, 4, 6. */
+/* Product, sum and floor on n shares, n the first operand's length: y and result have n words, work 512. What work holds at the start does
+ * not matter; it is zeros afterwards. Turn-downs 1, 4, 6. tape counts the tape words used, as the macros above have them. The results
+ * join to what the plain operations below give for the joined operands. */
 lubewon_answer lubewon_product_shares(const uint64_t *x, size_t x_len, const uint64_t *y, size_t y_len, uint64_t *result,
                                       size_t result_len, uint64_t *work, size_t work_len, const uint64_t *tape, size_t tape_len);
 lubewon_answer lubewon_sum_shares(const uint64_t *x, size_t x_len, const uint64_t *y, size_t y_len, uint64_t *result, size_t result_len,
@@ -64,24 +125,27 @@ lubewon_answer lubewon_sum_shares(const uint64_t *x, size_t x_len, const uint64_
 lubewon_answer lubewon_floor_shares(const uint64_t *x, size_t x_len, uint64_t *result, size_t result_len, uint64_t *work, size_t work_len,
                                     const uint64_t *tape, size_t tape_len);
 
-/* The same on plain words; never turned down. Numbers are bits: E = 0 is a zero of the word's sign, E = 2047 a number like others. Product
- * and sum: an exact result below 2^-1022 is a zero of its sign, and where the rounded E would be 2047 or more the result has E = 2047,
- * F = 0. Floor: an operand with E >= 1075 is returned as it is; E < 1023 gives plus zero, or -1 for a set sign bit, minus zero included;
- * between, the greatest whole number not above the operand. */
+/* The same on plain words; never turned down. E = 0 reads as a zero of the word's sign, whatever F; otherwise the number is (2^52 + F) times
+ * 2^(E - 1075), E = 2047 included: there are no infinities, no NaN and no subnormal numbers. Product and sum: an exact result that is not
+ * zero and below 2^-1022 in magnitude is a zero of its sign, before any rounding; else it is rounded to 53 bits, to the nearest, ties to
+ * even; where the rounded E would be 2047 or more the result has E = 2047, F = 0. A product's sign is the exclusive-or of the signs, for zeros
+ * too. A sum of two zeros is minus zero only if both are; exact cancellation gives plus zero. Floor: an operand with E >= 1075 is returned as
+ * it is; E < 1023 gives plus zero, or -1 for a set sign bit, minus zero included; between, the greatest whole number not above the operand. */
 uint64_t lubewon_product(uint64_t a, uint64_t b);
 uint64_t lubewon_sum(uint64_t a, uint64_t b);
 uint64_t lubewon_floor(uint64_t a);
 
-/* The built-in plans, copied to the front of out: operands in registers 0 and 1, result in 2. 4 where out is too short; out stays as it is
- * past the plan's end. words counts the plan's words, at most 2,048 (now 810, 300 and 83). */
+/* The built-in plans, copied to the front of out: operands in registers 0 and 1, result in 2. Turn-down 4 where out is too short; out stays as
+ * it is past the plan's end. words counts the plan's words. */
 lubewon_answer lubewon_copy_product_plan(uint32_t *out, size_t out_len);
 lubewon_answer lubewon_copy_sum_plan(uint32_t *out, size_t out_len);
 lubewon_answer lubewon_copy_floor_plan(uint32_t *out, size_t out_len);
 
-/* A word split into out_len shares, 2..8: shares 1 and up are the tape's words in order. 1, and 6 below out_len - 1 tape words. No counts. */
+/* A word split into out_len shares: shares 1 and up are the tape's words in order, share 0 the rest. Turn-downs 1, and 6 below out_len - 1 tape
+ * words. No counts. */
 lubewon_answer lubewon_split(uint64_t word, const uint64_t *tape, size_t tape_len, uint64_t *out, size_t out_len);
 
-/* The word that shares join to, 0 when turned down (1). No counts. */
+/* The word that shares join to, 0 when turned down. Turn-down 1. No counts. */
 lubewon_joined lubewon_join(const uint64_t *shares, size_t shares_len);
 
 #ifdef __cplusplus

@@ -23,4 +23,7 @@ void test_plan_copies(void);
 void test_split_and_join(void);
 void test_operations_on_shares(void);
 
+/* test_header.c */
+void test_header(void);
+
 #endif

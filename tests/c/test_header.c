@@ -1,0 +1,62 @@
+/* Group: the header's macros against what the calls answer. */
+#include "calls.h"
+#include "check.h"
+#include "tests.h"
+
+static void limits(void) {
+    static uint32_t plan[LUBEWON_PLAN_MAX + 1];
+    uint64_t cells[LUBEWON_CELLS + 1] = {0}, tape[1] = {0}, shares[LUBEWON_MOST_SHARES + 1] = {0};
+    const uint32_t good = 0x20080001, rand = 0x90000000;
+    for (size_t i = 0; i < COUNT(plan); i++) plan[i] = 0x80080001; /* ADD: the longest translation */
+    CHECK(lubewon_measure(LUBEWON_MOST_SHARES, plan, LUBEWON_PLAN_MAX).words == LUBEWON_PROGRAM_MAX, "header: longest program");
+    CHECK(lubewon_measure(2, plan, LUBEWON_PLAN_MAX + 1).number == LUBEWON_TOO_LONG, "header: too long");
+    CHECK(lubewon_measure(LUBEWON_LEAST_SHARES - 1, plan, 1).number == LUBEWON_SHARE_COUNT, "header: too few shares");
+    CHECK(lubewon_join(shares, LUBEWON_MOST_SHARES + 1).answer.number == LUBEWON_SHARE_COUNT, "header: too many shares");
+    CHECK(lubewon_measure(2, &rand, 1).number == LUBEWON_BAD_WORD, "header: bad word");
+    CHECK(lubewon_plain_run(&good, 1, cells, LUBEWON_REGISTERS).number == LUBEWON_DONE, "header: registers");
+    CHECK(lubewon_plain_run(&good, 1, cells, LUBEWON_REGISTERS + 1).number == LUBEWON_WRONG_LENGTH, "header: a register too many");
+    CHECK(lubewon_share_run(&good, 1, 1, tape, 0, 0, 1, cells, LUBEWON_CELLS).number == LUBEWON_DONE, "header: cells");
+    CHECK(lubewon_share_run(&good, 1, 2, tape, 0, 0, 1, cells, LUBEWON_CELLS).number == LUBEWON_PAST_END, "header: past the end");
+    CHECK(lubewon_one_share_step(rand, tape, 0, 0, cells, LUBEWON_CELLS).number == LUBEWON_TAPE_SHORT, "header: tape short");
+}
+
+/* An operation takes just the tape words that its macro says: with one fewer it is turned down. */
+static void tape_words(const operation *op, size_t n, size_t words) {
+    static uint64_t tape[8192];
+    uint64_t x[LUBEWON_MOST_SHARES] = {0}, result[LUBEWON_MOST_SHARES], work[LUBEWON_WORK];
+    lubewon_answer answer = op->on_shares(x, n, x, n, result, n, work, LUBEWON_WORK, tape, words);
+    CHECK(answer.number == LUBEWON_DONE && answer.tape == words, "header: tape words of %s, n = %zu", op->name, n);
+    answer = op->on_shares(x, n, x, n, result, n, work, LUBEWON_WORK, tape, words - 1);
+    CHECK(answer.number == LUBEWON_TAPE_SHORT, "header: fewer tape words for %s, n = %zu", op->name, n);
+}
+
+static void splitting(size_t n) {
+    uint64_t tape[LUBEWON_MOST_SHARES] = {0}, out[LUBEWON_MOST_SHARES];
+    CHECK(lubewon_split(1, tape, LUBEWON_SPLIT_TAPE(n), out, n).number == LUBEWON_DONE, "header: split, n = %zu", n);
+    CHECK(lubewon_split(1, tape, LUBEWON_SPLIT_TAPE(n) - 1, out, n).number == LUBEWON_TAPE_SHORT, "header: split, n = %zu", n);
+}
+
+/* XOR 2 0 1 on n shares writes share i of register 2 at its cell. */
+static void cells_of(size_t n) {
+    uint32_t program[LUBEWON_MOST_SHARES];
+    const uint32_t plan = 0x20080001;
+    lubewon_translate(n, &plan, 1, program, LUBEWON_MOST_SHARES);
+    for (size_t i = 0; i < n; i++) CHECK((program[i] >> 18 & 511) == LUBEWON_CELL(i, 2), "header: cell, share %zu", i);
+}
+
+void test_header(void) {
+    static uint32_t plan[LUBEWON_PLAN_MAX];
+    begin("header");
+    limits();
+    CHECK(lubewon_copy_product_plan(plan, LUBEWON_PLAN_MAX).words == LUBEWON_PRODUCT_PLAN, "header: product's plan");
+    CHECK(lubewon_copy_sum_plan(plan, LUBEWON_PLAN_MAX).words == LUBEWON_SUM_PLAN, "header: sum's plan");
+    CHECK(lubewon_copy_floor_plan(plan, LUBEWON_PLAN_MAX).words == LUBEWON_FLOOR_PLAN, "header: floor's plan");
+    for (size_t n = LUBEWON_LEAST_SHARES; n <= LUBEWON_MOST_SHARES; n++) {
+        tape_words(&operations[0], n, LUBEWON_PRODUCT_TAPE(n));
+        tape_words(&operations[1], n, LUBEWON_SUM_TAPE(n));
+        tape_words(&operations[2], n, LUBEWON_FLOOR_TAPE(n));
+        splitting(n);
+        cells_of(n);
+    }
+    end("limits, turn-downs, tape words and cells as the macros have them");
+}
