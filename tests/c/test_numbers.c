@@ -1,5 +1,6 @@
 /* Groups: plain operations, plan copies. */
 #include <math.h>
+#include <stdio.h>
 #include <string.h>
 
 #include "calls.h"
@@ -27,25 +28,52 @@ static bool ordinary(uint64_t x) {
     return (exponent >= 1 && exponent <= 2046) || x << 1 == 0;
 }
 
-/* Results on which they may differ: subnormals, and 2^-1022, which rounding alone may have reached. */
-static bool near_underflow(uint64_t x) {
-    return x << 1 != 0 && x << 1 <= UINT64_C(2) << 52;
+static const uint64_t sign_bit = UINT64_C(1) << 63, least_normal = UINT64_C(1) << 52;
+
+static uint64_t significand(uint64_t x) {
+    return least_normal | (x & (least_normal - 1));
 }
 
-static unsigned long natives;
+/* Whether the exact product of two normal numbers is below 2^-1022: their significands are multiples of 2^-52, so that the product of these,
+ * below 2^106, is one of 2^-104. */
+static bool product_below(uint64_t a, uint64_t b) {
+    unsigned __int128 whole = (unsigned __int128)significand(a) * significand(b);
+    unsigned top = whole >> 105 ? 105 : 104;
+    return (a >> 52 & 2047) + (b >> 52 & 2047) + top < 1128;
+}
+
+/* Comparisons with native results; results that document 01 makes zeros, and those among them that natively come out at 2^-1022. */
+static unsigned long natives, zeros, rounded_up;
+
+static void try_native_product(uint64_t a, uint64_t b, uint64_t native) {
+    uint64_t got = lubewon_product(a, b);
+    if (a << 1 == 0 || b << 1 == 0 || !product_below(a, b)) {
+        CHECK(got == native, "product of %016lX, %016lX differs from native %016lX", a, b, native);
+        natives++;
+        return;
+    }
+    CHECK(got == ((a ^ b) & sign_bit), "product of %016lX, %016lX below 2^-1022 is %016lX", a, b, got);
+    zeros++;
+    if ((native & ~sign_bit) == least_normal) rounded_up++;
+}
+
+/* A native sum below 2^-1022 is exact. */
+static void try_native_sum(uint64_t a, uint64_t b, uint64_t native) {
+    uint64_t got = lubewon_sum(a, b);
+    if (native << 1 == 0 || (native & ~sign_bit) >= least_normal) {
+        CHECK(got == native, "sum of %016lX, %016lX differs from native %016lX", a, b, native);
+        natives++;
+        return;
+    }
+    CHECK(got == (native & sign_bit), "sum of %016lX, %016lX below 2^-1022 is %016lX", a, b, got);
+    zeros++;
+}
 
 static void try_native(uint64_t a, uint64_t b) {
     volatile double x = as_double(a), y = as_double(b); /* no contraction, no folding */
     if (ordinary(a) && ordinary(b)) {
-        uint64_t product = as_bits(x * y), sum = as_bits(x + y);
-        if (!near_underflow(product)) {
-            CHECK(lubewon_product(a, b) == product, "product of %016lX, %016lX differs from native %016lX", a, b, product);
-            natives++;
-        }
-        if (!near_underflow(sum)) {
-            CHECK(lubewon_sum(a, b) == sum, "sum of %016lX, %016lX differs from native %016lX", a, b, sum);
-            natives++;
-        }
+        try_native_product(a, b, as_bits(x * y));
+        try_native_sum(a, b, as_bits(x + y));
     }
     if (ordinary(a) && a != UINT64_C(1) << 63) {
         uint64_t whole = as_bits(floor(x));
@@ -72,6 +100,19 @@ static void exponent_distances(void) {
         }
 }
 
+/* Products at 2^-1022, just above and just below: there alone a native product rounds up to it and document 01's is a zero. */
+static void boundary(void) {
+    for (int round = 0; round < 200000; round++) {
+        uint64_t exponent = 1 + below(1022), x = significand(random_fraction());
+        uint64_t y = (uint64_t)(((unsigned __int128)1 << 105) / x) + below(4) - 1;
+        if (y < least_normal || y >= 2 * least_normal) continue;
+        try_pair(pack(below(2), exponent, x - least_normal), pack(below(2), 1023 - exponent, y - least_normal));
+    }
+    try_pair(UINT64_C(0x0010000000000001), UINT64_C(0x3FEFFFFFFFFFFFFE)); /* just below */
+    try_pair(UINT64_C(0x0010000000000001), UINT64_C(0x3FEFFFFFFFFFFFFF)); /* just above */
+    try_pair(UINT64_C(0x0010000000000000), UINT64_C(0x3FF0000000000000)); /* at */
+}
+
 /* Floor of whole numbers and their neighbours. */
 static void floors(void) {
     for (uint64_t exponent = 1015; exponent <= 1085; exponent++)
@@ -96,12 +137,15 @@ void test_plain_operations(void) {
         for (size_t j = 0; j < count; j++) try_pair(numbers[i], numbers[j]);
     exponent_distances();
     floors();
+    boundary();
     for (int round = 0; round < 1000000; round++) {
         random_pair(&a, &b);
         try_pair(a, b);
     }
     CHECK(natives > 2000000, "only %lu comparisons with native binary64", natives);
-    end("edge table, all pairs of edge operands, exponent distances 0..70, random pairs; against reference and native doubles");
+    CHECK(rounded_up > 10000, "only %lu products just below 2^-1022", rounded_up);
+    printf("%-20s %lu results as native; %lu below 2^-1022, zeros here, of which natively %lu round up to it\n", "", natives, zeros, rounded_up);
+    end("edge table, all pairs of edge operands, exponent distances 0..70, around 2^-1022, random pairs; against reference and native doubles");
 }
 
 /* ---- Plan copies ---- */

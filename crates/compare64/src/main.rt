@@ -1,5 +1,6 @@
-// The plain operations against the machine's own binary64, over edges and at random, where document 01 and IEEE 754 agree.
-// Writes how many pairs were compared, how many lie outside and were skipped, and how many differ.
+// The plain operations against the machine's own binary64, over edges and at random, where document 01 and IEEE 754 agree, and against
+// document 01's own words where it departs from IEEE 754. Writes how many pairs agree, how many are such, how many have an operand that the
+// two read apart and were skipped, and how many differ from what they should be.
 mod native;
 mod operands;
 
@@ -15,27 +16,23 @@ const FLOOR: u64 = 2;
 const PAIRS: u64 = 1655040;
 
 struct Tally {
-    compared: u64,
+    same: u64,
+    apart: u64,
     skipped: u64,
     different: u64,
 }
 
-// An outcome counted. The counts cannot reach 2^64.
+// One more where the outcome is that of the count. The counts cannot reach 2^64.
+fn more(count: u64, outcome: u64, of: u64) -> u64 {
+    std::num::wrapping_add_u64(count, if outcome == of { 1 } else { 0 })
+}
+
 fn noted(t: Tally, outcome: u64) -> Tally {
-    if outcome == native::SKIPPED {
-        return Tally {
-            compared: t.compared,
-            skipped: std::num::wrapping_add_u64(t.skipped, 1),
-            different: t.different,
-        };
-    }
     Tally {
-        compared: std::num::wrapping_add_u64(t.compared, 1),
-        skipped: t.skipped,
-        different: std::num::wrapping_add_u64(
-            t.different,
-            if outcome == native::SAME { 0 } else { 1 },
-        ),
+        same: more(t.same, outcome, native::SAME),
+        apart: more(t.apart, outcome, native::APART),
+        skipped: more(t.skipped, outcome, native::SKIPPED),
+        different: more(t.different, outcome, native::DIFFERENT),
     }
 }
 
@@ -52,7 +49,8 @@ fn outcome(op: u64, a: u64, b: u64) -> u64 {
 // Pairs at edges, then pairs at random.
 fn all(op: u64) -> Tally {
     let mut t = Tally {
-        compared: 0,
+        same: 0,
+        apart: 0,
         skipped: 0,
         different: 0,
     };
@@ -66,14 +64,17 @@ fn all(op: u64) -> Tally {
     t
 }
 
+fn counted(label: &[u8], count: u64) {
+    io::write_all(STDOUT_FILENO, label);
+    io::print_decimal(STDOUT_FILENO, count);
+}
+
 fn report(name: &[u8], t: Tally) {
     io::write_all(STDOUT_FILENO, name);
-    io::write_all(STDOUT_FILENO, b": compared ");
-    io::print_decimal(STDOUT_FILENO, t.compared);
-    io::write_all(STDOUT_FILENO, b", skipped ");
-    io::print_decimal(STDOUT_FILENO, t.skipped);
-    io::write_all(STDOUT_FILENO, b", different ");
-    io::print_decimal(STDOUT_FILENO, t.different);
+    counted(b": as IEEE 754 ", t.same);
+    counted(b", apart from it as document 01 says ", t.apart);
+    counted(b", skipped ", t.skipped);
+    counted(b", different ", t.different);
     io::write_all(STDOUT_FILENO, b"\n");
 }
 

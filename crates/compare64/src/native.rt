@@ -6,6 +6,9 @@ pub const SAME: u64 = 1;
 
 pub const DIFFERENT: u64 = 2;
 
+// Where document 01 departs from IEEE 754, and the plain result is what document 01 says.
+pub const APART: u64 = 3;
+
 const LEAST_NORMAL: u64 = 0x0010_0000_0000_0000;
 
 // Bits 62..0.
@@ -45,7 +48,47 @@ fn compared(ours: u64, theirs: u64) -> u64 {
     if ours == theirs { SAME } else { DIFFERENT }
 }
 
-// A product that comes out as the least normal number or less may have been below it before rounding: skipped, unless a factor is zero.
+fn apart(ours: u64, said: u64) -> u64 {
+    if ours == said { APART } else { DIFFERENT }
+}
+
+// The number in 1..2 with a's fraction.
+fn scaled(a: u64) -> f64 {
+    number(0x3ff0_0000_0000_0000 | (a & 0xf_ffff_ffff_ffff))
+}
+
+// The upper half of a number's bits, by Veltkamp: the rest of it is exact in a float too.
+fn upper(x: f64) -> f64 {
+    let c = 134217729.0 * x;
+    c - (c - x)
+}
+
+// What the product p of x and y lost by rounding, by Dekker: exact, for numbers in 1..2.
+fn lost(x: f64, y: f64, p: f64) -> f64 {
+    let xu = upper(x);
+    let yu = upper(y);
+    let xl = x - xu;
+    let yl = y - yu;
+    ((xu * yu - p) + xu * yl + xl * yu) + xl * yl
+}
+
+// Whether the exact product of two normal numbers is below 2^-1022: by the sum of their exponents or, where that leaves it open, by
+// whether the product of their significands is below 2.
+fn below_normal(a: u64, b: u64) -> bool {
+    let e = std::num::wrapping_add_u64((a >> 52) & 0x7ff, (b >> 52) & 0x7ff);
+    if e != 1023 {
+        return e < 1023;
+    }
+    let x = scaled(a);
+    let y = scaled(b);
+    let p = x * y;
+    if p != 2.0 {
+        return p < 2.0;
+    }
+    lost(x, y, p) < 0.0
+}
+
+// An exact product below 2^-1022 is a zero of its sign by document 01, whatever it is natively: the least normal number, or a smaller one.
 pub fn product(a: u64, b: u64) -> u64 {
     if !plain(a) {
         return SKIPPED;
@@ -53,18 +96,18 @@ pub fn product(a: u64, b: u64) -> u64 {
     if !plain(b) {
         return SKIPPED;
     }
-    let theirs = bits(number(a) * number(b));
+    let ours = binary64::product(a, b);
     if magnitude(a) != 0 {
         if magnitude(b) != 0 {
-            if magnitude(theirs) <= LEAST_NORMAL {
-                return SKIPPED;
+            if below_normal(a, b) {
+                return apart(ours, (a ^ b) & 0x8000_0000_0000_0000);
             }
         }
     }
-    compared(binary64::product(a, b), theirs)
+    compared(ours, bits(number(a) * number(b)))
 }
 
-// A sum that comes out below the least normal number is exact, and not zero: skipped.
+// A sum that comes out below the least normal number is exact, and if it is not zero, document 01 makes it a zero of its sign.
 pub fn sum(a: u64, b: u64) -> u64 {
     if !plain(a) {
         return SKIPPED;
@@ -75,7 +118,7 @@ pub fn sum(a: u64, b: u64) -> u64 {
     let theirs = bits(number(a) + number(b));
     if magnitude(theirs) != 0 {
         if magnitude(theirs) < LEAST_NORMAL {
-            return SKIPPED;
+            return apart(binary64::sum(a, b), theirs & 0x8000_0000_0000_0000);
         }
     }
     compared(binary64::sum(a, b), theirs)
@@ -92,13 +135,13 @@ fn whole(x: f64) -> f64 {
     if near > x { near - 1.0 } else { near }
 }
 
-// Minus zero is skipped, where document 01 has -1.
+// Minus zero is where document 01 has -1.
 pub fn floor(a: u64) -> u64 {
     if !plain(a) {
         return SKIPPED;
     }
     if a == 0x8000_0000_0000_0000 {
-        return SKIPPED;
+        return apart(binary64::floor(a), 0xbff0_0000_0000_0000);
     }
     let x = number(a);
     if magnitude(a) < 0x4330_0000_0000_0000 {

@@ -1,7 +1,7 @@
 // Operands at edges and at random.
 ghost use Prim.Native.Nat.{_≤_};
 
-// Fractions at edges: zero, the least, the greatest, half and its neighbours, alternating bits, two.
+// Fractions at edges: zero, the least, the greatest and the one before it, half and its neighbours, two.
 fn fraction(k: u64) -> u64 {
     match k {
         0 => 0,
@@ -10,7 +10,7 @@ fn fraction(k: u64) -> u64 {
         3 => 0x8_0000_0000_0000,
         4 => 0x8_0000_0000_0001,
         5 => 0x7_ffff_ffff_ffff,
-        6 => 0x5_5555_5555_5555,
+        6 => 0xf_ffff_ffff_fffe,
         _ => 2,
     }
 }

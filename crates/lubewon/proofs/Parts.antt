@@ -25,6 +25,7 @@ use Rattle.masking.specs.Counts.{StepCounts, PlanCounts, Counts}
 use Rattle.masking.specs.Secrecy.{Tape, Pairing, Hidden, Secret}
 use Rattle.masking.specs.Demand3.{EachRun, InARow, Demand3}
 use Rattle.masking.specs.Leaks.{Leak}
+use Rattle.masking.specs.EveryShare.{JoinsWrongly}
 use Rattle.translation.specs.Tied.{Tied, TranslateTied}
 use Rattle.binary64.specs.Meaning.{NearestEven, Rounded, GreatestWhole}
 use Rattle.binary64.specs.Corners.{Corners}
@@ -86,6 +87,9 @@ demand3 h = record { runs = h .runs; secret = h .secret }
 
 leak : {i : ℕ} → Leak i → Leak i
 leak h = record { l = h .l; l′ = h .l′; start = h .start; start′ = h .start′; agree = h .agree; differ = h .differ }
+
+joins-wrongly : {n : ℕ} → JoinsWrongly n → JoinsWrongly n
+joins-wrongly h = record { cells = h .cells; start = h .start; not-wrong = h .not-wrong; const-wrong = h .const-wrong }
 
 tied : {n : ℕ} {plan out : List ℕ} → Tied n plan out → Tied n plan out
 tied h = record { accepted = h .accepted; written = h .written; demand3 = h .demand3 }

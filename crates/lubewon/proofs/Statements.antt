@@ -21,6 +21,7 @@ use Rattle.masking.specs.Counts.{StepCounts, PlanCounts}
 use Rattle.masking.specs.Secrecy.{Secret, Hidden}
 use Rattle.masking.specs.Demand3.{InARow}
 use Rattle.masking.specs.Leaks.{Leak}
+use Rattle.masking.specs.EveryShare.{JoinsWrongly}
 use Rattle.translation.specs.Calls.{measured, translateAnswer}
 use Rattle.translation.specs.Tied.{Tied}
 use Rattle.binary64.specs.Number.{sign, expo, frac, magnitude}
@@ -111,6 +112,9 @@ module _ (C : Claims) where
 
   leaks : Leak 0 × Leak 1
   leaks = C .unrefreshed-leaks
+
+  every-share : JoinsWrongly 2 × JoinsWrongly 4 × JoinsWrongly 6 × JoinsWrongly 8
+  every-share = C .every-share-wrong
 
   rounded : (u M : ℕ) → 52 ≤ u → 2 ^ u ≤ M → Rounded u M (magBits u M)
   rounded = C .rounding-means

@@ -9,6 +9,7 @@ use Rattle.plain.specs.Examples.{WordExamples}
 use Rattle.masking.specs.Counts.{Counts}
 use Rattle.masking.specs.Demand3.{Demand3Holds}
 use Rattle.masking.specs.Leaks.{UnrefreshedLeaks}
+use Rattle.masking.specs.EveryShare.{EveryShareWrong}
 use Rattle.masking.specs.Examples.{TranslationExamples}
 use Rattle.translation.specs.Tied.{TranslateTied}
 use Rattle.binary64.specs.Meaning.{RoundingMeans, FloorMeans, FloorMinusZero}
@@ -34,6 +35,8 @@ pub record Claims : Type 0 where
   pub translate-tied : TranslateTied
   -- and that an AND on two shares without its refresh has no such secrecy
   pub unrefreshed-leaks : UnrefreshedLeaks
+  -- and that NOT and CONST in every share join wrongly at even n
+  pub every-share-wrong : EveryShareWrong
   -- numbers: what rounding and floor mean, where the results are IEEE 754's, the corners, the table of edges
   pub rounding-means : RoundingMeans
   pub floor-means : FloorMeans

@@ -17,11 +17,11 @@ zero-at zero k = refl
 zero-at (suc n) zero = refl
 zero-at (suc n) (suc k) = zero-at n k
 
-zero-words : (n : ℕ) → Words (replicate n 0)
+pub zero-words : (n : ℕ) → Words (replicate n 0)
 zero-words n k = subst (λ (v : ℕ). v < 2 ^ 64) (sym (zero-at n k)) (pow-pos 64)
 
 -- register 0 has the shares x and y, all other cells are 0
-abbrev zeros : List ℕ
+abbrev pub zeros : List ℕ
 zeros = replicate 512 0
 
 abbrev shared : ℕ → ℕ → List ℕ

@@ -1,6 +1,6 @@
 -- Share programs: the translation (Translation), the counts foretold (Foretold), the share machine (Machine), share runs in a row
 -- (Runs), what shares join to (Unsplit), and the statements proved of them: counts (Counts), secrecy (Secrecy), demand 3 (Demand3), that
--- AND needs its refresh (Leaks), and worked examples (Examples).
+-- AND needs its refresh (Leaks) and NOT and CONST a share apart (EveryShare), and worked examples (Examples).
 pub mod Translation
 pub mod Foretold
 pub mod Machine
@@ -10,4 +10,5 @@ pub mod Counts
 pub mod Secrecy
 pub mod Demand3
 pub mod Leaks
+pub mod EveryShare
 pub mod Examples
