@@ -69,13 +69,13 @@ pub fn word_done(w: u32, n: usize, tape: &[u64], t: usize, cells: &mut [u64]) ->
     let g = w % StepWord::FIELD;
     let b = register(g);
     match kind {
-        1 => const_shares(d, StepWord::FIELD * f + g, n, cells),
-        2 => each(Op::Xor, d, a, b, n, cells),
-        3 => return and_shares(d, a, b, n, tape, t, cells),
-        4 => not_shares(d, a, n, cells),
-        5 => each(Op::Shl(g), d, a, a, n, cells),
-        6 => each(Op::Shr(g), d, a, a, n, cells),
-        7 => each(Op::Spread, d, a, a, n, cells),
+        StepWord::CONST => const_shares(d, StepWord::FIELD * f + g, n, cells),
+        StepWord::XOR => each(Op::Xor, d, a, b, n, cells),
+        StepWord::AND => return and_shares(d, a, b, n, tape, t, cells),
+        StepWord::NOT => not_shares(d, a, n, cells),
+        StepWord::SHL => each(Op::Shl(g), d, a, a, n, cells),
+        StepWord::SHR => each(Op::Shr(g), d, a, a, n, cells),
+        StepWord::SPREAD => each(Op::Spread, d, a, a, n, cells),
         _ => return add_shares(d, a, b, n, tape, t, cells),
     }
     t

@@ -29,6 +29,10 @@ listAnswer (n ∷ rest) =
     (given (ltb (4 * planMax) (length rest) || not (eqb (length rest % 4) 0)) (refused 2)
     (measureAnswer n (wordsOf rest)))
 
+-- "8,193 bytes": n, and the longest plan's
+abbrev pub inputMax : ℕ
+inputMax = 1 + 4 * planMax
+
 -- the share count and the plan of an input
 abbrev pub countOf : List ℕ → ℕ
 countOf [] = 0

@@ -11,6 +11,9 @@ use word::step_word::StepWord;
 // The bytes of the longest plan.
 const PLAN_BYTES: usize = 4 * StepWord::PLAN_MAX;
 
+// The bytes of the longest input: n, and that plan.
+pub const INPUT_MAX: usize = 1 + PLAN_BYTES;
+
 // A word of four bytes, the least first.
 fn word_of(a: u8, b: u8, c: u8, d: u8) -> u32
     ensures { λ r. ⌜ r ≡ a + 256 * b + 65536 * c + 16777216 * d ⌝ }

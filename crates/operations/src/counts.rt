@@ -6,14 +6,14 @@ ghost use Rattle.masking.specs.Foretold.{foretoldTape};
 ghost use Rattle.operations.specs.Inner.{perPair, wordPerPair};
 use word::step_word::StepWord;
 
-// Tape words of a plan word for each pair of shares: 2 for AND, 24 for ADD.
+// Tape words of a plan word for each pair of shares.
 fn word_per_pair(w: u32) -> usize
     ensures { λ r. ⌜ r ≡ wordPerPair w ⌝ }
 {
     let kind = w >> StepWord::KIND_AT;
     match kind {
-        3 => 2,
-        8 => 24,
+        StepWord::AND => StepWord::AND_TAPE,
+        StepWord::ADD => StepWord::ADD_TAPE,
         _ => 0,
     }
 }

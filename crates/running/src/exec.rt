@@ -16,7 +16,7 @@ pub fn rands(words: &[u32]) -> usize
 {
     let mut count = 0;
     for i in 0..words.len() {
-        if words[i] >> StepWord::KIND_AT == 9 {
+        if words[i] >> StepWord::KIND_AT == StepWord::RAND {
             count += 1;
         }
     }
@@ -29,18 +29,18 @@ fn value(w: u32, cells: &[u64]) -> u64
     ensures { λ r. ⌜ set (now (cells .entry)) (fieldD w) r ≡ machine.exec (w ∷ []) [] (now (cells .entry)) ⌝ }
 {
     let kind = w >> StepWord::KIND_AT;
-    if kind == 1 {
-        return (w % 262144) as u64;
+    if kind == StepWord::CONST {
+        return (w % StepWord::NUMBERS) as u64;
     }
     let a = ((w >> StepWord::A_AT) % StepWord::FIELD) as usize;
     let b = (w % StepWord::FIELD) as usize;
     let x = cells[a];
     match kind {
-        2 => x ^ cells[b],
-        3 => x & cells[b],
-        4 => !x,
-        5 => x << ((w % StepWord::FIELD) % 64),
-        6 => x >> ((w % StepWord::FIELD) % 64),
+        StepWord::XOR => x ^ cells[b],
+        StepWord::AND => x & cells[b],
+        StepWord::NOT => !x,
+        StepWord::SHL => x << ((w % StepWord::FIELD) % StepWord::SHIFTS),
+        StepWord::SHR => x >> ((w % StepWord::FIELD) % StepWord::SHIFTS),
         _ => (x % 2) * 18446744073709551615,
     }
 }
@@ -54,7 +54,7 @@ pub fn exec(words: &[u32], tape: &[u64], cells: &mut [u64])
     for i in 0..words.len() {
         let w = words[i];
         let d = ((w >> StepWord::D_AT) % StepWord::FIELD) as usize;
-        if w >> StepWord::KIND_AT == 9 {
+        if w >> StepWord::KIND_AT == StepWord::RAND {
             cells[d] = tape[t];
             t += 1;
         } else {

@@ -5,32 +5,33 @@ ghost use lib.Dec.{ltb};
 ghost use Rattle.word.specs.Encoding as spec;
 use crate::step::Decoded;
 use crate::step::Step;
+use crate::step_word::StepWord;
 
 // What kind `k` with fields d, a and b means.
 pub fn row(k: u32, d: u16, a: u16, b: u16) -> Decoded
     ensures { λ r. ⌜ r ≡ spec.row k d a b ⌝ }
 {
     match k {
-        1 => Decoded::Good(Step::Const {
+        StepWord::CONST => Decoded::Good(Step::Const {
             d,
-            k: 512 * (a as u32) + (b as u32),
+            k: StepWord::FIELD * (a as u32) + (b as u32),
         }),
-        2 => Decoded::Good(Step::Xor { d, a, b }),
-        3 => Decoded::Good(Step::And { d, a, b }),
-        4 => if b == 0 {
+        StepWord::XOR => Decoded::Good(Step::Xor { d, a, b }),
+        StepWord::AND => Decoded::Good(Step::And { d, a, b }),
+        StepWord::NOT => if b == 0 {
             Decoded::Good(Step::Not { d, a })
         } else {
             Decoded::Bad
         },
-        5 => Decoded::Good(Step::Shl { d, a, b }),
-        6 => Decoded::Good(Step::Shr { d, a, b }),
-        7 => if b == 0 {
+        StepWord::SHL => Decoded::Good(Step::Shl { d, a, b }),
+        StepWord::SHR => Decoded::Good(Step::Shr { d, a, b }),
+        StepWord::SPREAD => if b == 0 {
             Decoded::Good(Step::Spread { d, a })
         } else {
             Decoded::Bad
         },
-        8 => Decoded::Good(Step::Add { d, a, b }),
-        9 => if a == 0 {
+        StepWord::ADD => Decoded::Good(Step::Add { d, a, b }),
+        StepWord::RAND => if a == 0 {
             if b == 0 {
                 Decoded::Good(Step::Rand { d })
             } else {
@@ -55,7 +56,7 @@ pub fn within(cells: u16, s: Step) -> bool
     ensures { λ r. ⌜ r ≡ spec.within cells s ⌝ }
 {
     match s {
-        Step::Const { d, k } => below(d, cells, k < 262144),
+        Step::Const { d, k } => below(d, cells, k < StepWord::NUMBERS),
         Step::Xor { d, a, b } => below(d, cells, below(a, cells, b < cells)),
         Step::And { d, a, b } => below(d, cells, below(a, cells, b < cells)),
         Step::Not { d, a } => below(d, cells, a < cells),
@@ -71,7 +72,10 @@ pub fn within(cells: u16, s: Step) -> bool
 pub fn put(k: u32, d: u16, a: u16, b: u16) -> u32
     ensures { λ r. ⌜ r ≡ spec.put k d a b ⌝ }
 {
-    (k % 16) * 268435456 + ((d as u32) % 512) * 262144 + ((a as u32) % 512) * 512 + (b as u32) % 512
+    (k % 16) * StepWord::KIND_UNIT
+        + ((d as u32) % StepWord::FIELD) * StepWord::NUMBERS
+        + ((a as u32) % StepWord::FIELD) * StepWord::FIELD
+        + (b as u32) % StepWord::FIELD
 }
 
 // The number of a step's kind.
@@ -79,15 +83,15 @@ pub fn kind_number(s: Step) -> u32
     ensures { λ r. ⌜ r ≡ spec.kindNumber s ⌝ }
 {
     match s {
-        Step::Const { d: _, k: _ } => 1,
-        Step::Xor { d: _, a: _, b: _ } => 2,
-        Step::And { d: _, a: _, b: _ } => 3,
-        Step::Not { d: _, a: _ } => 4,
-        Step::Shl { d: _, a: _, b: _ } => 5,
-        Step::Shr { d: _, a: _, b: _ } => 6,
-        Step::Spread { d: _, a: _ } => 7,
-        Step::Add { d: _, a: _, b: _ } => 8,
-        Step::Rand { d: _ } => 9,
+        Step::Const { d: _, k: _ } => StepWord::CONST,
+        Step::Xor { d: _, a: _, b: _ } => StepWord::XOR,
+        Step::And { d: _, a: _, b: _ } => StepWord::AND,
+        Step::Not { d: _, a: _ } => StepWord::NOT,
+        Step::Shl { d: _, a: _, b: _ } => StepWord::SHL,
+        Step::Shr { d: _, a: _, b: _ } => StepWord::SHR,
+        Step::Spread { d: _, a: _ } => StepWord::SPREAD,
+        Step::Add { d: _, a: _, b: _ } => StepWord::ADD,
+        Step::Rand { d: _ } => StepWord::RAND,
     }
 }
 
@@ -95,7 +99,7 @@ pub fn kind_number(s: Step) -> u32
 pub fn in_plan(s: Step) -> bool
     ensures { λ r. ⌜ r ≡ spec.inPlan s ⌝ }
 {
-    if kind_number(s) == 9 {
+    if kind_number(s) == StepWord::RAND {
         false
     } else {
         within(32, s)
@@ -106,7 +110,7 @@ pub fn in_plan(s: Step) -> bool
 pub fn in_program(s: Step) -> bool
     ensures { λ r. ⌜ r ≡ spec.inProgram s ⌝ }
 {
-    if kind_number(s) == 8 {
+    if kind_number(s) == StepWord::ADD {
         false
     } else {
         within(512, s)

@@ -25,6 +25,38 @@ impl StepWord {
     // The values that a field of nine bits can have.
     pub const FIELD: u32 = 512;
 
+    // The values that CONST's number, of a's and b's bits, and a shift can have.
+    pub const NUMBERS: u32 = StepWord::FIELD * StepWord::FIELD;
+
+    // The word of kind 1 with all else zero.
+    pub const KIND_UNIT: u32 = 268435456;
+
+    pub const SHIFTS: u32 = 64;
+
+    // The kinds.
+    pub const CONST: u32 = 1;
+
+    pub const XOR: u32 = 2;
+
+    pub const AND: u32 = 3;
+
+    pub const NOT: u32 = 4;
+
+    pub const SHL: u32 = 5;
+
+    pub const SHR: u32 = 6;
+
+    pub const SPREAD: u32 = 7;
+
+    pub const ADD: u32 = 8;
+
+    pub const RAND: u32 = 9;
+
+    // The tape words that AND and ADD take for each pair of shares.
+    pub const AND_TAPE: usize = 2;
+
+    pub const ADD_TAPE: usize = 24;
+
     // Limits: of a plan, of one plan word's share words (ADD's for eight shares), and of a share program.
     pub const PLAN_MAX: usize = 2048;
 
@@ -132,14 +164,14 @@ impl StepWord {
         }
         let kind = w >> StepWord::KIND_AT;
         match kind {
-            1 => true,
-            2 => true,
-            3 => true,
-            4 => w % StepWord::FIELD == 0,
-            5 => w % StepWord::FIELD < 64,
-            6 => w % StepWord::FIELD < 64,
-            7 => w % StepWord::FIELD == 0,
-            9 => w % 262144 == 0,
+            StepWord::CONST => true,
+            StepWord::XOR => true,
+            StepWord::AND => true,
+            StepWord::NOT => w % StepWord::FIELD == 0,
+            StepWord::SHL => w % StepWord::FIELD < StepWord::SHIFTS,
+            StepWord::SHR => w % StepWord::FIELD < StepWord::SHIFTS,
+            StepWord::SPREAD => w % StepWord::FIELD == 0,
+            StepWord::RAND => w % StepWord::NUMBERS == 0,
             _ => false,
         }
     }
@@ -149,15 +181,20 @@ impl StepWord {
         ensures { λ r. ⌜ r .bits ≡ wordOf s ⌝ }
     {
         let bits = match s {
-            Step::Const { d, k } => put(1, d, ((k / 512) % 512) as u16, (k % 512) as u16),
-            Step::Xor { d, a, b } => put(2, d, a, b),
-            Step::And { d, a, b } => put(3, d, a, b),
-            Step::Not { d, a } => put(4, d, a, 0),
-            Step::Shl { d, a, b } => put(5, d, a, b),
-            Step::Shr { d, a, b } => put(6, d, a, b),
-            Step::Spread { d, a } => put(7, d, a, 0),
-            Step::Add { d, a, b } => put(8, d, a, b),
-            Step::Rand { d } => put(9, d, 0, 0),
+            Step::Const { d, k } => put(
+                StepWord::CONST,
+                d,
+                ((k / StepWord::FIELD) % StepWord::FIELD) as u16,
+                (k % StepWord::FIELD) as u16,
+            ),
+            Step::Xor { d, a, b } => put(StepWord::XOR, d, a, b),
+            Step::And { d, a, b } => put(StepWord::AND, d, a, b),
+            Step::Not { d, a } => put(StepWord::NOT, d, a, 0),
+            Step::Shl { d, a, b } => put(StepWord::SHL, d, a, b),
+            Step::Shr { d, a, b } => put(StepWord::SHR, d, a, b),
+            Step::Spread { d, a } => put(StepWord::SPREAD, d, a, 0),
+            Step::Add { d, a, b } => put(StepWord::ADD, d, a, b),
+            Step::Rand { d } => put(StepWord::RAND, d, 0, 0),
         };
         StepWord { bits }
     }
@@ -195,8 +232,8 @@ impl StepWord {
     {
         let n = n as usize;
         match kind {
-            3 => 5 * (n * n) - 2 * n,
-            8 => 60 * (n * n) - 3 * n,
+            StepWord::AND => 5 * (n * n) - 2 * n,
+            StepWord::ADD => 60 * (n * n) - 3 * n,
             _ => n,
         }
     }
@@ -211,8 +248,8 @@ impl StepWord {
         let n = n as usize;
         let pairs = n * (n - 1) / 2;
         match kind {
-            3 => 2 * pairs,
-            8 => 24 * pairs,
+            StepWord::AND => StepWord::AND_TAPE * pairs,
+            StepWord::ADD => StepWord::ADD_TAPE * pairs,
             _ => 0,
         }
     }

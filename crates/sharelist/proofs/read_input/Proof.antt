@@ -1,27 +1,30 @@
 -- `sharelist::read_input` meets its contract.
-use borrow.Author.Needs.{needs}
-use lib.Seq.{length-take-le}
-use lib.ListN.{length}
-use native.Mathlib.Omega.{arith}
-use Prim.Native.Nat.{_-_, _≤_}
 use mathlib.Core.Path.{_≡_, refl, sym}
+use mathlib.Core.Logic.{_⊎_}
+use mathlib.Core.Logic._⊎_.{inl, inr}
+use Prim.Native.Nat.{_-_, _≤_, _<_}
+use native.Mathlib.Omega.{arith}
+use lib.ListN.{length}
+use lib.Seq.{length-take-le}
+use borrow.Author.Needs.{needs}
+use Rattle.listing.specs.Sharelist.{inputMax}
 use Rattle.sharelist.proofs.read_input.Statement.{statement}
 use Rattle.sharelist.proofs.read_input.Tie as tie
 
 abbrev Inv-loop : tie.InvT-loop
-Inv-loop input₀ count₀ input count = (count ≤ length input) × (length input ≡ length input₀)
+Inv-loop input₀ count₀ last₀ input count last = (count ≤ length input) × (length input ≡ length input₀) × (inputMax < length input₀)
 
 abbrev μ-loop : tie.MeasureT-loop
-μ-loop input₀ count₀ input count = length input - count
+μ-loop input₀ count₀ last₀ input count last = length input - count
 
 loop-holds : tie.Need-loop-holds Inv-loop μ-loop
-loop-holds c = (omega arith, refl)
+loop-holds c = (omega arith, refl, search needs)
+
+returns : tie.Need-returns Inv-loop μ-loop
+returns c = ((search needs, sym (length-take-le _ _ (search needs))), inl (search needs))
 
 returns-2 : tie.Need-returns-2 Inv-loop μ-loop
-returns-2 c = (omega arith, sym (length-take-le _ _ (omega arith)))
-
-returns-3 : tie.Need-returns-3 Inv-loop μ-loop
-returns-3 c = (search needs, sym (length-take-le _ _ (search needs)))
+returns-2 c = ((omega arith, sym (length-take-le _ _ (omega arith))), inr (omega arith))
 
 pub read-input-spec : {M : Type 1} → statement M
 read-input-spec =
@@ -37,13 +40,11 @@ read-input-spec =
     (λ c. search needs)
     (λ c. search needs)
     (λ c. search needs)
-    (λ c. search needs)
-    (λ c. search needs)
     (λ c κs. search needs)
     (λ c. search needs)
+    returns
     (λ c. search needs)
     (λ c. search needs)
     (λ c. search needs)
-    returns-2
     (λ c. search needs)
-    returns-3)
+    returns-2)

@@ -1,0 +1,2 @@
+-- When an input was read to its end (Whole).
+pub mod Whole
