@@ -1,0 +1,83 @@
+/* Constant time on shares, for valgrind's memcheck: shares, cells and tape words are marked undefined, so that memcheck reports every branch and
+ * every address that depends on one. A call's answer must not depend on them either: it is tested here. */
+#include <lubewon.h>
+#include <stdio.h>
+#include <stdlib.h>
+#include <valgrind/memcheck.h>
+
+enum { N = LUBEWON_MOST_SHARES, TAPE = 8192, PROGRAM = 65536 };
+
+static uint64_t x[N], y[N], result[N], work[LUBEWON_WORK], cells[LUBEWON_CELLS], tape[TAPE];
+static uint32_t program[PROGRAM];
+
+/* CONST, XOR, AND, NOT, SHL, SHR, SPREAD and ADD, with distinct and with equal registers. */
+static const uint32_t plan[] = {0x100C02BC, 0x20080001, 0x30100403, 0x40140800, 0x50180A07, 0x601C0C03,
+                                0x70200E00, 0x80240001, 0x30040201, 0x80241209, 0x30281208, 0x20281409};
+enum { PLAN = sizeof plan / sizeof *plan };
+
+#define SECRET(array) VALGRIND_MAKE_MEM_UNDEFINED(array, sizeof(array))
+#define SHOWN(array) VALGRIND_MAKE_MEM_DEFINED(array, sizeof(array))
+
+static void all_secret(void) {
+    SECRET(x), SECRET(y), SECRET(result), SECRET(work), SECRET(cells), SECRET(tape);
+}
+
+static void done(const char *call, size_t n, lubewon_answer answer) {
+    if (answer.number == LUBEWON_DONE) return;
+    printf("%s, n = %zu: turned down with %u\n", call, n, (unsigned)answer.number);
+    exit(1);
+}
+
+static void operations(size_t n) {
+    all_secret();
+    done("product", n, lubewon_product_shares(x, n, y, n, result, n, work, LUBEWON_WORK, tape, TAPE));
+    all_secret();
+    done("sum", n, lubewon_sum_shares(x, n, y, n, result, n, work, LUBEWON_WORK, tape, TAPE));
+    all_secret();
+    done("floor", n, lubewon_floor_shares(x, n, result, n, work, LUBEWON_WORK, tape, TAPE));
+}
+
+/* In a go, in pieces, and step by step. */
+static void share_runs(size_t n) {
+    lubewon_answer m = lubewon_translate(n, plan, PLAN, program, PROGRAM);
+    done("translate", n, m);
+    all_secret();
+    done("share run", n, lubewon_share_run(program, m.words, 0, tape, TAPE, 0, m.words, cells, LUBEWON_CELLS));
+    all_secret();
+    for (size_t at = 0, tape_at = 0; at < m.words;) {
+        lubewon_answer part = lubewon_share_run(program, m.words, at, tape, TAPE, tape_at, 501, cells, LUBEWON_CELLS);
+        done("share run", n, part);
+        at += part.words, tape_at += part.tape;
+    }
+    all_secret();
+    for (size_t at = 0, tape_at = 0; at < m.words; at++) {
+        lubewon_answer step = lubewon_one_share_step(program[at], tape, TAPE, tape_at, cells, LUBEWON_CELLS);
+        done("one share step", n, step);
+        tape_at += step.tape;
+    }
+}
+
+static void split_and_join(size_t n) {
+    all_secret();
+    uint64_t word = 1;
+    VALGRIND_MAKE_MEM_UNDEFINED(&word, sizeof word);
+    done("split", n, lubewon_split(word, tape, N, x, n));
+    done("join", n, lubewon_join(x, n).answer);
+}
+
+int main(int argc, char **argv) {
+    (void)argv;
+    for (size_t n = LUBEWON_LEAST_SHARES; n <= LUBEWON_MOST_SHARES; n++) {
+        operations(n);
+        share_runs(n);
+        split_and_join(n);
+    }
+    all_secret();
+    if (argc > 1) { /* sabotage, which must be found: a branch on a share, and an address by one */
+        if (x[0] & 1) puts("");
+        volatile uint64_t got = work[x[1] & 7];
+        (void)got;
+    }
+    SHOWN(x);
+    return 0;
+}
