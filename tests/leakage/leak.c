@@ -1,6 +1,6 @@
 /* Leakage by words, on the machine code: single-steps a call on shares and tests, for each instruction, every word that it writes to a register or
  * to memory for dependence on the operands: two fixed pairs of operands that differ in every bit, fresh shares and tape in each run. With
- * `transitions` it is the exclusive-or of the word with the one that it replaces.
+ * `transitions` it is the exclusive-or of the word with the one that it replaces. Flags, and what pushes and calls store, are left out.
  *
  * usage: leak TABLE product|sum|floor|joins N RUNS words|transitions ; TABLE is destinations.py's. Prints the instructions found and how many;
  * ends with 3 if there are any, with 1 if the path is not the same in all runs. `joins` is a sabotage, which must be found. */
