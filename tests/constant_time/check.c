@@ -1,5 +1,5 @@
-/* Constant time on shares, for valgrind's memcheck: shares, cells and tape words are marked undefined, so that memcheck reports every branch and
- * every address that depends on one. A call's answer must not depend on them either: it is tested here. */
+/* Constant time, for valgrind's memcheck: shares, cells and tape words, and the operands of the plain operations, are marked undefined, so that
+ * memcheck reports every branch and every address that depends on one. A call's answer must not depend on them either: it is tested here. */
 #include <lubewon.h>
 #include <stdio.h>
 #include <stdlib.h>
@@ -65,6 +65,14 @@ static void split_and_join(size_t n) {
     done("join", n, lubewon_join(x, n).answer);
 }
 
+/* Every bit of an operand is undefined, so that one call stands for all operands: a path that a branch on one would choose is reported at it. */
+static void plain_operations(void) {
+    uint64_t a = 1, b = 2;
+    VALGRIND_MAKE_MEM_UNDEFINED(&a, sizeof a);
+    VALGRIND_MAKE_MEM_UNDEFINED(&b, sizeof b);
+    x[0] = lubewon_product(a, b), x[1] = lubewon_sum(a, b), x[2] = lubewon_floor(a);
+}
+
 int main(int argc, char **argv) {
     (void)argv;
     for (size_t n = LUBEWON_LEAST_SHARES; n <= LUBEWON_MOST_SHARES; n++) {
@@ -72,6 +80,7 @@ int main(int argc, char **argv) {
         share_runs(n);
         split_and_join(n);
     }
+    plain_operations();
     all_secret();
     if (argc > 1) { /* sabotage, which must be found: a branch on a share, and an address by one */
         if (x[0] & 1) puts("");

@@ -1,7 +1,7 @@
 -- Cases by order, and what a choice gives once its test is known. Rests on lib.Dec and borrow.Author.Tests.
-use mathlib.Core.Path.{_≡_, refl, ap, subst}
+use mathlib.Core.Path.{_≡_, refl, sym, ap, subst}
 use mathlib.Core.Logic.{_⊎_, inl, inr}
-use mathlib.Core.Bool.{Bool, not, cond}
+use mathlib.Core.Bool.{Bool, true, false, not, cond}
 use Prim.Native.Nat.{ℕ, suc, _^_, _≤_, _<_, compare, Ordering, Ordering·lt, Ordering·eq, Ordering·gt}
 use native.Mathlib.Nat.{lt-of-not-le, not-le-of-lt, le-antisymm, lt-of-lt-of-le}
 use native.Mathlib.Omega.{arith}
@@ -70,6 +70,28 @@ if-eq a b x y h = ap (λ (t : Bool). cond t x y) (eq-eqb a b h)
 
 pub if-not-eq : (a b x y : ℕ) → (a ≡ b → ⊥) → cond (eqb a b) x y ≡ y
 if-not-eq a b x y h = ap (λ (t : Bool). cond t x y) (ne-eqb a b h)
+
+pub if-some : (x y z : ℕ) → (x ≡ 0 → ⊥) → cond (not (eqb x 0)) y z ≡ y
+if-some x y z h = ap (λ (t : Bool). cond (not t) y z) (ne-eqb x 0 h)
+
+pub if-none : (x y z : ℕ) → x ≡ 0 → cond (not (eqb x 0)) y z ≡ z
+if-none x y z h = ap (λ (t : Bool). cond (not t) y z) (eq-eqb x 0 h)
+
+-- ---- whatever a test gives: what holds of both answers
+pub by-lt : (P : Bool → Type 0) (a b : ℕ) → (a < b → P true) → (b ≤ a → P false) → P (ltb a b)
+by-lt P a b t f =
+    elim (lt-or-ge a b) [
+      | inl l ↦ subst P (sym (lt-ltb a b l)) (t l)
+      | inr l ↦ subst P (sym (le-ltb a b l)) (f l)
+    ]
+
+pub by-eq : (P : Bool → Type 0) (a b : ℕ) → (a ≡ b → P true) → ((a ≡ b → ⊥) → P false) → P (eqb a b)
+by-eq P a b t f = go (compare a b) (cmp a b)
+  where
+    go : (o : Ordering) → Cmp o a b → P (eqb a b)
+    go Ordering·lt l = subst P (sym (ne-eqb a b (λ e. omega arith))) (f (λ e. omega arith))
+    go Ordering·eq e = subst P (sym (eq-eqb a b e)) (t e)
+    go Ordering·gt l = subst P (sym (ne-eqb a b (λ e. omega arith))) (f (λ e. omega arith))
 
 -- ---- the length of a number in bits
 pub pow-lt-back : (i j : ℕ) → 2 ^ i < 2 ^ j → i < j

@@ -1,6 +1,7 @@
 -- The lemmas, each file over those above it.
 pub mod Cases
 pub mod Words
+pub mod Selecting
 pub mod Jam
 pub mod Round
 pub mod Encode
@@ -9,6 +10,7 @@ pub mod Columns
 pub mod SumModel
 pub mod SumCases
 pub mod FloorModel
+pub mod Selected
 pub mod Meaning
 pub mod FloorMeaning
 pub mod Corners

@@ -5,14 +5,12 @@ use mathlib.Core.Logic.{_⊎_, inl, inr}
 use Prim.Native.Nat.{ℕ, zero, suc, _+_, _-_, _*_, _%_, _^_, _≤_, _<_, zero-le}
 use native.Mathlib.Nat.{le-trans, le-of-eq, le-of-lt, mul-assoc, mul-le-mul-right, mul-le-mul-left, zero-mul, mul-pos, add-comm, add-zero, sub-zero, suc-sub-suc, mod-lt, eq-or-lt-of-le, eq-zero-or-pos}
 use native.Mathlib.Omega.{arith}
-use lib.Bits.{bitAnd}
 use lib.Pow.{pow-pos, pow-add}
 use Rattle.binary64.specs.Number.{sign, expo, frac, magnitudeOf, magnitude, signed}
 use Rattle.binary64.specs.Rounding.{magBits}
 use Rattle.binary64.specs.Sum.{sumOf, sum}
 use Rattle.binary64.specs.Steps.{jam, encoded, alignedOf, aligned}
-use Rattle.binary64.proofs.Cases.{lt-or-ge, zero-one, if-lt, if-not-lt, if-eq, if-not-eq}
-use Rattle.binary64.proofs.Words.{sign-cases, sign-and}
+use Rattle.binary64.proofs.Cases.{lt-or-ge, if-lt, if-not-lt, if-eq, if-not-eq}
 use Rattle.binary64.proofs.Jam.{jam-le, jam-zero, jam-pos}
 use Rattle.binary64.proofs.Round.{bits-zero}
 use Rattle.binary64.proofs.Encode.{Stands, stands-bits}
@@ -194,25 +192,6 @@ module _ (a b : ℕ) (le : b % 2 ^ 63 ≤ a % 2 ^ 63) where
   pub zeros-unlike : expo a ≡ 0 → (sign a ≡ sign b → ⊥) → sum a b ≡ 0
   unfolding sum
   zeros-unlike h ne = let z = zeros h in sum-equal (sign a) (sign b) (magnitude a) (magnitude b) ne (z .0 ∙ sym (z .1))
-
-  -- the sign that two zeros leave is the AND of theirs
-  pub zeros-sum : a < 2 ^ 64 → b < 2 ^ 64 → expo a ≡ 0 → sum a b ≡ sign (bitAnd a b) * 2 ^ 63
-  zeros-sum ha hb h =
-      elim (sign-cases a ha) [
-        | inl s ↦
-            elim (sign-cases b hb) [
-              | inl t ↦ zeros-like h (s ∙ sym t) ∙ ap (λ (x : ℕ). x * 2 ^ 63) s ∙ sym (both 0 0 s t)
-              | inr t ↦ zeros-unlike h (λ e. zero-one s (e ∙ t)) ∙ sym (both 0 1 s t)
-            ]
-        | inr s ↦
-            elim (sign-cases b hb) [
-              | inl t ↦ zeros-unlike h (λ e. zero-one t (sym e ∙ s)) ∙ sym (both 1 0 s t)
-              | inr t ↦ zeros-like h (s ∙ sym t) ∙ ap (λ (x : ℕ). x * 2 ^ 63) s ∙ sym (both 1 1 s t)
-            ]
-      ]
-    where
-      both : (x y : ℕ) → sign a ≡ x → sign b ≡ y → sign (bitAnd a b) * 2 ^ 63 ≡ bitAnd x y * 2 ^ 63
-      both x y s t = ap (λ (z : ℕ). z * 2 ^ 63) (sign-and a b ∙ ap₂ bitAnd s t)
 
   -- the fields of the larger, which is not zero
   module _ (n : expo a ≡ 0 → ⊥) where

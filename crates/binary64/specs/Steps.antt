@@ -3,9 +3,10 @@
 use mathlib.Core.Bool.{cond}
 use Prim.Native.Nat.{ℕ, zero, suc, _+_, _-_, _*_, _/_, _%_, _^_, min}
 use lib.Count.{leadingZeros}
-use lib.Dec.{ltb}
+use lib.Bits.{bitAnd}
+use lib.Dec.{ltb, eqb}
 use lib.Ieee.Nearest.{closest}
-use Rattle.binary64.specs.Number.{expo, frac}
+use Rattle.binary64.specs.Number.{sign, expo, frac}
 
 -- N / 2^k to the nearest whole number, ties to even
 unfoldable pub roundNE : ℕ → ℕ → ℕ
@@ -34,3 +35,10 @@ alignedOf d (suc e) F = jam d ((2 ^ 52 + F) * 2 ^ 9)
 
 unfoldable pub aligned : ℕ → ℕ → ℕ
 aligned d b = alignedOf d (expo b) (frac b)
+
+-- a raised by f where its sign is set, modulo 2^64, and then without the bits of f
+abbrev pub raisedBy : ℕ → ℕ → ℕ
+raisedBy f a = (a + cond (eqb (sign a) 0) 0 f) % 2 ^ 64
+
+unfoldable pub loweredBy : ℕ → ℕ → ℕ
+loweredBy f a = raisedBy f a - bitAnd (raisedBy f a) f

@@ -4,32 +4,29 @@ use crate::fields::sign_bit;
 use crate::fields::significand;
 use crate::rounding::encode;
 use crate::rounding::sticky;
+use crate::select::choose;
+use crate::select::kept;
 ghost use mathlib.Core.Path.{_≡_};
 ghost use Prim.Native.Nat.{_%_, _^_, _≤_, _<_};
 ghost use Rattle.binary64.specs.Sum.{sum};
 ghost use Rattle.binary64.specs.Steps.{jam, aligned};
 
-// w shifted right by d places, doubled, with a sticky bit for the bits shifted out.
+// w shifted right by d places, doubled, with a sticky bit for the bits shifted out. From 63 places on all of them are.
 fn shift_jam(w: u64, d: u64) -> u64
     requires { ⌜ w < 2 ^ 63 ⌝ }
     ensures { λ r. ⌜ r ≡ jam d w ⌝ }
 {
-    if d < 64 {
-        let rest = w & ((1u64 << d) - 1);
-        2 * (w >> d) + sticky(rest)
-    } else {
-        sticky(w)
-    }
+    let k = choose(d < 63, d, 63);
+    let shifted = w >> k;
+    let rest = w - (shifted << k);
+    2 * shifted + sticky(rest)
 }
 
 // The smaller operand, whose exponent is d below the larger's, aligned with it; nothing for a zero.
 fn align(b: u64, d: u64) -> u64
     ensures { λ r. ⌜ r ≡ aligned d b ⌝ }
 {
-    if exponent(b) == 0 {
-        return 0;
-    }
-    shift_jam(significand(b) << 9, d)
+    shift_jam(kept(exponent(b) != 0, significand(b) << 9), d)
 }
 
 // The sum of operands whose bits 62..0 are in falling order. Two zeros are minus zero only if both are; exact cancellation gives plus zero.
@@ -38,17 +35,10 @@ pub fn ordered(a: u64, b: u64) -> u64
     ensures { λ r. ⌜ r ≡ sum a b ⌝ }
 {
     let e = exponent(a);
-    if e == 0 {
-        return sign_bit(a & b);
-    }
-    let x = significand(a) << 10;
+    let x = kept(e != 0, significand(a) << 10);
     let y = align(b, e - exponent(b));
     let s = sign_bit(a);
-    if s == sign_bit(b) {
-        return s | encode(x + y, e);
-    }
-    if x == y {
-        return 0;
-    }
-    s | encode(x - y, e)
+    let like = s == sign_bit(b);
+    let z = choose(like, x + y, x - y);
+    choose(like, s, kept(z != 0, s)) | encode(z, e)
 }

@@ -3,6 +3,7 @@ use crate::fields::exponent;
 use crate::fields::significand;
 use crate::rounding::encode;
 use crate::rounding::sticky;
+use crate::select::kept;
 ghost use mathlib.Core.Path.{_≡_};
 ghost use Prim.Native.Nat.{_*_, _^_, _<_};
 ghost use Rattle.binary64.specs.Number.{magnitude};
@@ -32,15 +33,10 @@ pub fn magnitude(a: u64, b: u64) -> u64
 {
     let ea = exponent(a);
     let eb = exponent(b);
-    if ea == 0 {
-        return 0;
-    }
-    if eb == 0 {
-        return 0;
-    }
     let e = ea + eb;
-    if e < 1015 {
-        return 0;
-    }
-    encode(jammed_product(significand(a), significand(b)), e - 1015)
+    let bits = encode(
+        jammed_product(significand(a), significand(b)),
+        std::num::wrapping_sub_u64(e, 1015),
+    );
+    kept(ea != 0, kept(eb != 0, kept(1015 <= e, bits)))
 }

@@ -1,24 +1,37 @@
 -- `binary64::sum` meets its contract: a mask of 63 ones takes the remainder by 2^63, and the order of the operands does not matter (`sum-comm`).
-use mathlib.Core.Path.{_∙_}
+use mathlib.Core.Path.{_≡_, refl, ap₂, _∙_}
+use mathlib.Core.Bool.{Bool, cond}
+use Prim.Native.Nat.{ℕ, _-_, _%_, _^_, _≤_}
 use native.Mathlib.Omega.{arith}
 use borrow.Author.Needs.{needs}
-use lib.Bits.{and-mask}
+use lib.Bits.{bitAnd, and-mask}
+use Rattle.binary64.specs.Sum as Spec
+use Rattle.binary64.proofs.Cases.{by-lt}
 use Rattle.binary64.proofs.SumCases.{sum-comm}
 use Rattle.binary64.proofs.sum.Statement.{statement}
 use Rattle.binary64.proofs.sum.Tie as tie
 
-ordered-requires : tie.Need-ordered-requires
-ordered-requires c κs = omega (arith, and-mask (c .before .args .a) 63, and-mask (c .before .args .b) 63, c .if1 .taken)
+-- the larger first
+falling : (a b : ℕ) → cond (lib.Dec.ltb (bitAnd a (2 ^ 63 - 1)) (bitAnd b (2 ^ 63 - 1))) a b % 2 ^ 63 ≤ cond (lib.Dec.ltb (bitAnd a (2 ^ 63 - 1)) (bitAnd b (2 ^ 63 - 1))) b a % 2 ^ 63
+falling a b =
+    by-lt (λ (t : Bool). cond t a b % 2 ^ 63 ≤ cond t b a % 2 ^ 63) (bitAnd a (2 ^ 63 - 1)) (bitAnd b (2 ^ 63 - 1))
+    (λ l. omega (arith, and-mask a 63, and-mask b 63)) (λ l. omega (arith, and-mask a 63, and-mask b 63))
 
-ordered-requires-2 : tie.Need-ordered-requires-2
-ordered-requires-2 c κs = omega (arith, and-mask (c .before .args .a) 63, and-mask (c .before .args .b) 63, c .if1 .left)
+ordered-requires : tie.Need-ordered-requires
+ordered-requires c κs = rw (c .before .choose .ensures, c .choose2 .ensures) (falling (c .before .before .args .a) (c .before .before .args .b))
 
 returns : tie.Need-returns
-returns c = c .ordered .ensures ∙ sum-comm (c .before .before .args .b) (c .before .before .args .a)
+returns c =
+    let s = c .before .before .before in
+    let a = s .args .a in
+    let b = s .args .b in
+    c .ordered .ensures
+    ∙ ap₂ Spec.sum (c .before .before .choose .ensures) (c .before .choose2 .ensures)
+    ∙ by-lt (λ (t : Bool). Spec.sum (cond t b a) (cond t a b) ≡ Spec.sum a b) (bitAnd a (2 ^ 63 - 1)) (bitAnd b (2 ^ 63 - 1)) (λ l. sum-comm b a) (λ l. refl)
 
 pub sum-spec : {M : Type 1} → statement M
 sum-spec = tie.close (tie.spec
+    (λ c κs. search needs)
+    (λ c κs. search needs)
     ordered-requires
-    ordered-requires-2
-    returns
-    (λ c. search needs))
+    returns)

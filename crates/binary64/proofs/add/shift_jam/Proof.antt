@@ -1,46 +1,56 @@
--- `binary64::add::shift_jam` meets its contract: below 64 places the mask takes just the bits shifted out, from 64 on every bit is.
-use mathlib.Core.Path.{sym, ap, _∙_, subst}
-use Prim.Native.Nat.{ℕ, _+_, _*_, _/_, _^_, _≤_, min}
+-- `binary64::add::shift_jam` meets its contract: from 63 places on every bit is shifted out, however far (`far`).
+use mathlib.Core.Path.{_≡_, refl, sym, ap, _∙_, subst}
+use mathlib.Core.Bool.{Bool, cond}
+use Prim.Native.Nat.{ℕ, _+_, _-_, _*_, _/_, _^_, _<_, min}
 use native.Mathlib.Nat.{lt-of-lt-of-le}
 use native.Mathlib.Omega.{arith}
 use borrow.Author.Needs.{needs}
-use lib.Pow.{pow-pos, pow-mono, shr-le}
-use Rattle.binary64.proofs.Words.{one-shl, low-bits}
+use lib.Dec.{ltb}
+use lib.Pow.{pow-mono, shr-le}
+use Rattle.binary64.specs.Steps.{jam}
+use Rattle.binary64.proofs.Cases.{by-lt}
+use Rattle.binary64.proofs.Words.{cleared, low-rest}
 use Rattle.binary64.proofs.Jam.{jam-is, jam-all}
 use Rattle.binary64.proofs.add.shift_jam.Statement.{statement}
 use Rattle.binary64.proofs.add.shift_jam.Tie as tie
 
-sub-rest : tie.Need-sub-rest
-sub-rest c = let d = c .before .args .d in subst (λ (x : ℕ). 1 ≤ x) (sym (one-shl d (c .if1 .taken))) (pow-pos d)
+far : (d w : ℕ) → w < 2 ^ 63 → (cond (ltb d 63) d 63 < 64) × (jam (cond (ltb d 63) d 63) w ≡ jam d w)
+far d w h =
+    by-lt (λ (b : Bool). (cond b d 63 < 64) × (jam (cond b d 63) w ≡ jam d w)) d 63 (λ l. (omega arith, refl))
+    (λ l. (omega arith, jam-all 63 w h ∙ sym (jam-all d w (lt-of-lt-of-le h (pow-mono l)))))
+
+-- the places taken
+places : (c : tie.After-choose) → c .choose .result < 64
+places c = subst (λ (k : ℕ). k < 64) (sym (c .choose .ensures)) (far (c .before .args .d) (c .before .args .w) (c .before .pre) .0)
 
 mul-result : tie.Need-mul-result
-mul-result c = omega (arith, shr-le (c .before .args .w) (c .before .args .d))
+mul-result c = omega (arith, shr-le (c .before .args .w) (c .choose .result))
+
+sub-rest : tie.Need-sub-rest
+sub-rest c = cleared (c .before .args .w) (c .choose .result) (c .before .fits .w .fits) .1
 
 add-result : tie.Need-add-result
-add-result c = omega (arith, shr-le (c .before .before .args .w) (c .before .before .args .d))
+add-result c = omega (arith, shr-le (c .before .before .args .w) (c .before .choose .result))
 
 returns : tie.Need-returns
 returns c =
-    let w = c .before .before .args .w in
-    let d = c .before .before .args .d in
-    ap (λ (x : ℕ). 2 * (w / 2 ^ d) + x) (c .sticky .ensures ∙ ap (λ (x : ℕ). min x 1) (low-bits w d (c .before .if1 .taken))) ∙ sym (jam-is d w)
-
-returns-2 : tie.Need-returns-2
-returns-2 c =
-    let w = c .before .before .args .w in
-    let d = c .before .before .args .d in
-    let far : 2 ^ 64 ≤ 2 ^ d = pow-mono (c .before .if1 .left) in
-    c .sticky2 .ensures ∙ sym (jam-all d w (lt-of-lt-of-le (c .before .before .fits .w .fits) far))
+    let s = c .before .before in
+    let w = s .args .w in
+    let d = s .args .d in
+    let k = c .before .choose .result in
+    ap (λ (x : ℕ). 2 * (w / 2 ^ k) + x) (c .sticky .ensures ∙ ap (λ (x : ℕ). min x 1) (low-rest w k (s .fits .w .fits)))
+    ∙ sym (jam-is k w)
+    ∙ ap (λ (x : ℕ). jam x w) (c .before .choose .ensures)
+    ∙ far d w (s .pre) .1
 
 pub shift-jam-spec : {M : Type 1} → statement M
 shift-jam-spec =
     tie.close (tie.spec
-    (λ c. search needs)
+    (λ c κs. search needs)
+    places
+    places
     sub-rest
-    (λ c. search needs)
     mul-result
     (λ c κs. search needs)
     add-result
-    (λ c κs. search needs)
-    returns
-    returns-2)
+    returns)

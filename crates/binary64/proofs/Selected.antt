@@ -1,0 +1,186 @@
+-- The plain operations' results as the code selects them, without a branch, against the definitions' cases.
+-- Rests on Encode, ProductModel, SumCases and FloorModel, which have the cases.
+use mathlib.Core.Path.{_≡_, refl, sym, ap, ap₂, _∙_}
+use mathlib.Core.Bool.{Bool, not, cond}
+use mathlib.Core.Logic.{inl, inr}
+use Prim.Native.Nat.{ℕ, zero, suc, _+_, _-_, _*_, _/_, _%_, _^_, _≤_, _<_}
+use native.Mathlib.Nat.{mod-eq-of-lt, div-add-mod'}
+use native.Mathlib.Omega.{arith}
+use lib.Bits.{bitAnd, bitOr, and-mask, or-shifted, or-zero-r}
+use lib.Count.{leadingZeros, leading-top}
+use lib.Dec.{ltb, leb, eqb}
+use lib.Pow.{pow-pos, pow-mono, ones-split, ones-lt, high}
+use Rattle.binary64.specs.Number.{sign, expo, frac, magnitude, signed}
+use Rattle.binary64.specs.Rounding.{magBits}
+use Rattle.binary64.specs.Sum.{sum}
+use Rattle.binary64.specs.Floor.{floor}
+use Rattle.binary64.specs.Steps.{roundNE, jam, packed, encodedAt, encoded, aligned, loweredBy}
+use Rattle.binary64.proofs.Cases.{lt-or-ge, if-lt, if-not-lt, if-le, if-not-le, if-eq, if-not-eq, if-some, if-none, by-lt, by-eq}
+use Rattle.binary64.proofs.Selecting.{same-sign}
+use Rattle.binary64.proofs.Jam.{jam-pos}
+use Rattle.binary64.proofs.Round.{round-top}
+use Rattle.binary64.proofs.Encode.{to-top, encoded-lt}
+use Rattle.binary64.proofs.ProductModel.{product-zero-l, product-zero-r, product-tiny, product-encoded}
+use Rattle.binary64.proofs.SumCases.{zeros-like, zeros-unlike, like-signs, differ, cancelled, unlike-signs, aligned-none}
+use Rattle.binary64.proofs.FloorModel.{floor-large, floor-small-plus, floor-small-minus, floor-plus, floor-minus}
+
+-- ---- rounding and packing
+packed-is : (E q : ℕ) → 2 ^ 52 ≤ q → q ≤ 2 ^ 53 → cond (ltb E 2046) (E * 2 ^ 52 + q) (2047 * 2 ^ 52) ≡ packed E q
+packed-is E q lo hi = by-lt (λ (b : Bool). cond b (E * 2 ^ 52 + q) (2047 * 2 ^ 52) ≡ packed E q) E 2046 (λ l. omega arith) (λ l. omega arith)
+
+-- z brought to the top by its leading zeros, of which there are fewer than 64 where z is not zero; w is e less their count, modulo 2^64
+pub encode-selected : (z e w : ℕ) → z < 2 ^ 64 → w < 2 ^ 64 → e < 2 ^ 64 → (w + leadingZeros 64 z) % 2 ^ 64 ≡ e
+    → cond (not (eqb z 0)) (cond (leb (leadingZeros 64 z) e) (cond (ltb w 2046) (w * 2 ^ 52 + roundNE ((z * 2 ^ (leadingZeros 64 z % 64)) % 2 ^ 64) 11) (2047 * 2 ^ 52)) 0) 0
+    ≡ cond (eqb z 0) 0 (encoded z e)
+unfolding encodedAt
+encode-selected z e w hz hw he h =
+    let s = leadingZeros 64 z in
+    let q = roundNE ((z * 2 ^ (s % 64)) % 2 ^ 64) 11 in
+    by-eq (λ (b : Bool). cond (not b) (cond (leb s e) (cond (ltb w 2046) (w * 2 ^ 52 + q) (2047 * 2 ^ 52)) 0) 0 ≡ cond b 0 (encoded z e)) z 0 (λ _. refl)
+    (λ n. elim (lt-or-ge e s) [
+      | inl l ↦ if-not-le s e _ 0 l ∙ sym (if-lt e s 0 (packed (e - s) (roundNE (z * 2 ^ s) 11)) l)
+      | inr l ↦
+          let pos : 0 < z = positive z n in
+          let top = to-top z pos hz in
+          let small : s < 64 = fewer z pos hz in
+          let qe : q ≡ roundNE (z * 2 ^ s) 11 = ap (λ (k : ℕ). roundNE ((z * 2 ^ k) % 2 ^ 64) 11) (mod-eq-of-lt small) ∙ ap (λ (x : ℕ). roundNE x 11) (mod-eq-of-lt (top .1)) in
+          let range = round-top (z * 2 ^ s) (top .0) (top .1) in
+          let we : w ≡ e - s = omega arith in
+          if-le s e _ 0 l ∙ ap₂ (λ (E q : ℕ). cond (ltb E 2046) (E * 2 ^ 52 + q) (2047 * 2 ^ 52)) we qe
+          ∙ packed-is (e - s) (roundNE (z * 2 ^ s) 11) (range .0) (range .1)
+          ∙ sym (if-not-lt e s 0 (packed (e - s) (roundNE (z * 2 ^ s) 11)) l)
+    ])
+  where
+    positive : (z : ℕ) → (z ≡ 0 → ⊥) → 0 < z
+    positive zero n = absurd (n refl)
+    positive (suc z) n = omega arith
+
+    fewer : (z : ℕ) → 0 < z → z < 2 ^ 64 → leadingZeros 64 z < 64
+    fewer z p h = let t = leading-top 64 z p h in omega (arith, t .1)
+
+-- ---- the product's bits 62..0: Z is the jammed product of the significands, w the sum of both E less 1015, modulo 2^64
+pub product-selected : (a b w : ℕ) → w < 2 ^ 64 → (w + 1015) % 2 ^ 64 ≡ expo a + expo b → (Z : ℕ) → Z ≡ jam 51 ((2 ^ 52 + frac a) * (2 ^ 52 + frac b))
+    → cond (not (eqb (expo a) 0)) (cond (not (eqb (expo b) 0)) (cond (leb 1015 (expo a + expo b)) (cond (eqb Z 0) 0 (encoded Z w)) 0) 0) 0
+    ≡ magBits 1126 (magnitude a * magnitude b)
+product-selected a b w hw h Z hZ =
+    by-eq (λ (t : Bool). cond (not t) (cond (not (eqb (expo b) 0)) (cond (leb 1015 (expo a + expo b)) (cond (eqb Z 0) 0 (encoded Z w)) 0) 0) 0 ≡ M) (expo a) 0 (λ e. sym (product-zero-l a b e))
+    (λ na. by-eq (λ (t : Bool). cond (not t) (cond (leb 1015 (expo a + expo b)) (cond (eqb Z 0) 0 (encoded Z w)) 0) 0 ≡ M) (expo b) 0 (λ e. sym (product-zero-r a b e))
+    (λ nb. elim (lt-or-ge (expo a + expo b) 1015) [
+      | inl l ↦ if-not-le 1015 (expo a + expo b) _ 0 l ∙ sym (product-tiny a b na nb l)
+      | inr l ↦
+          let we : w ≡ expo a + expo b - 1015 = omega arith in
+          if-le 1015 (expo a + expo b) _ 0 l ∙ if-not-eq Z 0 0 _ (λ e. nonzero e) ∙ ap₂ encoded hZ we ∙ sym (product-encoded a b na nb l)
+    ]))
+  where
+    M : ℕ
+    M = magBits 1126 (magnitude a * magnitude b)
+
+    nonzero : Z ≡ 0 → ⊥
+    nonzero e = let p = jam-pos 51 ((2 ^ 52 + frac a) * (2 ^ 52 + frac b)) (native.Mathlib.Nat.mul-pos (omega arith) (omega arith)) in omega arith
+
+-- ---- the sum of operands in order: W and U are the aligned significands, zero for a zero, Z their sum or difference
+module _ (a b : ℕ) (le : b % 2 ^ 63 ≤ a % 2 ^ 63) where
+  abbrev pub larger : ℕ
+  larger = cond (not (eqb (expo a) 0)) ((2 ^ 52 + frac a) * 2 ^ 10) 0
+
+  abbrev pub smaller : ℕ
+  smaller = aligned (expo a - expo b) b
+
+  -- the smaller of two zeros is one too
+  no-smaller : expo a ≡ 0 → smaller ≡ 0
+  no-smaller h = aligned-none (expo a - expo b) b (omega arith)
+
+  pub in-order : (smaller ≤ larger) × (larger < 2 ^ 63)
+  in-order =
+      by-eq (λ (t : Bool). (smaller ≤ cond (not t) ((2 ^ 52 + frac a) * 2 ^ 10) 0) × (cond (not t) ((2 ^ 52 + frac a) * 2 ^ 10) 0 < 2 ^ 63)) (expo a) 0
+      (λ e. (native.Mathlib.Nat.le-of-eq (no-smaller e), pow-pos 63)) (λ n. (differ a b le n .fits, omega arith))
+
+  -- the sign and the bits of what is left, like or unlike
+  abbrev put : ℕ → Bool → ℕ
+  put Z like = bitOr (cond like (sign a * 2 ^ 63) (cond (not (eqb Z 0)) (sign a * 2 ^ 63) 0)) (cond (eqb Z 0) 0 (encoded Z (expo a)))
+
+  put-none : (Z : ℕ) (like : Bool) → Z ≡ 0 → put Z like ≡ cond like (sign a * 2 ^ 63) 0
+  put-none Z like e =
+      ap₂ bitOr (ap (cond like (sign a * 2 ^ 63)) (if-none Z (sign a * 2 ^ 63) 0 e)) (if-eq Z 0 0 (encoded Z (expo a)) e) ∙ or-zero-r (cond like (sign a * 2 ^ 63) 0)
+
+  put-some : (Z : ℕ) (like : Bool) → (Z ≡ 0 → ⊥) → put Z like ≡ signed (sign a) (encoded Z (expo a))
+  put-some Z like n =
+      ap₂ bitOr (ap (cond like (sign a * 2 ^ 63)) (if-some Z (sign a * 2 ^ 63) 0 n) ∙ either like) (if-not-eq Z 0 0 (encoded Z (expo a)) n)
+      ∙ or-shifted (sign a) 63 (encoded Z (expo a)) (encoded-lt (leadingZeros 64 Z) Z (expo a))
+    where
+      either : (like : Bool) → cond like (sign a * 2 ^ 63) (sign a * 2 ^ 63) ≡ sign a * 2 ^ 63
+      either mathlib.Core.Bool.true = refl
+      either mathlib.Core.Bool.false = refl
+
+  pub sum-selected : put (cond (eqb (sign a) (sign b)) (larger + smaller) (larger - smaller)) (eqb (sign a) (sign b)) ≡ sum a b
+  sum-selected =
+      by-eq (λ (t : Bool). put (cond t (larger + smaller) (larger - smaller)) t ≡ sum a b) (sign a) (sign b)
+      (λ like. by-eq (λ (t : Bool). put (cond (not t) ((2 ^ 52 + frac a) * 2 ^ 10) 0 + smaller) mathlib.Core.Bool.true ≡ sum a b) (expo a) 0
+      (λ e. put-none (0 + smaller) mathlib.Core.Bool.true (omega (arith, no-smaller e)) ∙ sym (zeros-like a b le e like))
+      (λ n. put-some ((2 ^ 52 + frac a) * 2 ^ 10 + smaller) mathlib.Core.Bool.true (λ z. omega arith) ∙ sym (like-signs a b le n like)))
+      (λ unlike. by-eq (λ (t : Bool). put (cond (not t) ((2 ^ 52 + frac a) * 2 ^ 10) 0 - smaller) mathlib.Core.Bool.false ≡ sum a b) (expo a) 0
+      (λ e. put-none (0 - smaller) mathlib.Core.Bool.false (omega arith) ∙ sym (zeros-unlike a b le e unlike))
+      (λ n. elim (native.Mathlib.Nat.eq-zero-or-pos ((2 ^ 52 + frac a) * 2 ^ 10 - smaller)) [
+        | inl z ↦ put-none ((2 ^ 52 + frac a) * 2 ^ 10 - smaller) mathlib.Core.Bool.false z ∙ sym (cancelled a b le n unlike z)
+        | inr p ↦ put-some ((2 ^ 52 + frac a) * 2 ^ 10 - smaller) mathlib.Core.Bool.false (λ z. omega arith) ∙ sym (unlike-signs a b le n unlike p)
+      ]))
+
+  -- over the code's own words: x and y the aligned significands, s and t the signs in place
+  pub ordered-selected : (e x y s t z k r v : ℕ) → e ≡ expo a → x ≡ larger → y ≡ smaller → s ≡ sign a * 2 ^ 63 → t ≡ sign b * 2 ^ 63
+      → z ≡ cond (eqb s t) (x + y) (x - y) → k ≡ cond (not (eqb z 0)) s 0 → r ≡ cond (eqb s t) s k → v ≡ cond (eqb z 0) 0 (encoded z e) → bitOr r v ≡ sum a b
+  ordered-selected e x y s t z k r v he hx hy hs ht hz hk hr hv =
+      let like : eqb s t ≡ eqb (sign a) (sign b) = same-sign (sign a) (sign b) s t hs ht in
+      let Z = cond (eqb (sign a) (sign b)) (larger + smaller) (larger - smaller) in
+      let zZ : z ≡ Z = hz ∙ ap (λ (b : Bool). cond b (x + y) (x - y)) like ∙ ap₂ (λ (x y : ℕ). cond (eqb (sign a) (sign b)) (x + y) (x - y)) hx hy in
+      let kK : k ≡ cond (not (eqb Z 0)) (sign a * 2 ^ 63) 0 = hk ∙ ap₂ (λ (z s : ℕ). cond (not (eqb z 0)) s 0) zZ hs in
+      ap₂ bitOr (hr ∙ ap (λ (b : Bool). cond b s k) like ∙ ap₂ (cond (eqb (sign a) (sign b))) hs kK) (hv ∙ ap₂ (λ (z e : ℕ). cond (eqb z 0) 0 (encoded z e)) zZ he)
+      ∙ sum-selected
+
+-- ---- floor: d is E less 1023, modulo 2^64
+-- the fraction's bits as a mask
+mask : (d : ℕ) → d ≤ 52 → (2 ^ 52 - 1) / 2 ^ (d % 64) ≡ 2 ^ (52 - d) - 1
+mask d h =
+    let w : 52 - d + d ≡ 52 = omega arith in
+    ap₂ (λ (n k : ℕ). (2 ^ n - 1) / 2 ^ k) (sym w) (mod-eq-of-lt (omega arith))
+    ∙ ap (λ (x : ℕ). x / 2 ^ d) (ones-split (52 - d) d)
+    ∙ high (2 ^ (52 - d) - 1) d (ones-lt d)
+
+without : (t k : ℕ) → t - bitAnd t (2 ^ k - 1) ≡ t / 2 ^ k * 2 ^ k
+without t k = ap (λ (x : ℕ). t - x) (and-mask t k) ∙ rest (t / 2 ^ k * 2 ^ k) (t % 2 ^ k) t (div-add-mod' t (2 ^ k))
+  where
+    rest : (x r t : ℕ) → x + r ≡ t → t - r ≡ x
+    rest x r t e = omega arith
+
+lowered : (a k : ℕ) → a + 2 ^ k < 2 ^ 64 → loweredBy (2 ^ k - 1) a ≡ cond (eqb (sign a) 0) (a / 2 ^ k * 2 ^ k) ((a + (2 ^ k - 1)) / 2 ^ k * 2 ^ k)
+unfolding loweredBy
+lowered a k h =
+    by-eq (λ (b : Bool). raised b - bitAnd (raised b) (2 ^ k - 1) ≡ cond b (a / 2 ^ k * 2 ^ k) ((a + (2 ^ k - 1)) / 2 ^ k * 2 ^ k)) (sign a) 0
+    (λ _. ap (λ (t : ℕ). t - bitAnd t (2 ^ k - 1)) (omega arith) ∙ without a k)
+    (λ _. ap (λ (t : ℕ). t - bitAnd t (2 ^ k - 1)) (mod-eq-of-lt (omega (arith, pow-pos k))) ∙ without (a + (2 ^ k - 1)) k)
+  where
+    raised : Bool → ℕ
+    raised b = (a + cond b 0 (2 ^ k - 1)) % 2 ^ 64
+
+pub floor-selected : (a d : ℕ) → a < 2 ^ 64 → d < 2 ^ 64 → (d + 1023) % 2 ^ 64 ≡ expo a
+    → cond (ltb d 52) (loweredBy ((2 ^ 52 - 1) / 2 ^ (d % 64)) a) (cond (ltb (expo a) 1023) (cond (eqb (sign a) 0) 0 0xBFF0000000000000) a) ≡ floor a
+floor-selected a d ha hd h =
+    elim (lt-or-ge (expo a) 1023) [
+      | inl l ↦
+          if-not-lt d 52 _ _ (omega arith) ∙ if-lt (expo a) 1023 _ a l
+          ∙ by-eq (λ (b : Bool). cond b 0 0xBFF0000000000000 ≡ floor a) (sign a) 0 (λ e. sym (floor-small-plus a l e)) (λ n. sym (floor-small-minus a l n))
+      | inr g ↦
+          elim (lt-or-ge (expo a) 1075) [
+            | inl l ↦
+                let k = 1075 - expo a in
+                let dk : 52 - d ≡ k = omega arith in
+                let room : 2 ^ k ≤ 2 ^ 52 = pow-mono {i = k} {j = 52} (omega arith) in
+                if-lt d 52 _ _ (omega arith)
+                ∙ ap (λ (f : ℕ). loweredBy f a) (mask d (omega arith) ∙ ap (λ (x : ℕ). 2 ^ x - 1) dk)
+                ∙ lowered a k (fits a (expo a) (2 ^ k) ha refl l room)
+                ∙ by-eq (λ (b : Bool). cond b (a / 2 ^ k * 2 ^ k) ((a + (2 ^ k - 1)) / 2 ^ k * 2 ^ k) ≡ floor a) (sign a) 0 (λ e. sym (floor-plus a g l e)) (λ n. sym (floor-minus a g l n))
+            | inr l ↦ if-not-lt d 52 _ _ (omega arith) ∙ if-not-lt (expo a) 1023 _ a g ∙ sym (floor-large a l)
+          ]
+    ]
+  where
+    fits : (a E p : ℕ) → a < 2 ^ 64 → E ≡ expo a → E < 1075 → p ≤ 2 ^ 52 → a + p < 2 ^ 64
+    fits a E p h e l q = omega arith
