@@ -5,6 +5,7 @@ ghost use Rattle.masking.specs.Translation.{andBlock, cellsOf, scratch};
 ghost use mathlib.Core.Path.{_≡_};
 ghost use Rattle.emission.specs.Written as emission;
 ghost use Rattle.emission.specs.Written.{Emits, Registers, Room};
+use crate::emit::HELPERS;
 use crate::emit::Once;
 use crate::emit::each_share;
 use crate::pairs::EachPair;
@@ -12,13 +13,13 @@ use crate::pairs::all_pairs;
 use word::step::Step;
 
 // The helper registers of ADD.
-const H: u16 = 32;
+const H: u16 = HELPERS;
 
-const G: u16 = 33;
+const G: u16 = HELPERS + 1;
 
-const P: u16 = 34;
+const P: u16 = HELPERS + 2;
 
-const T: u16 = 35;
+const T: u16 = HELPERS + 3;
 
 fn and_block(d: u16, a: u16, b: u16, n: u8, at: usize, out: &mut [u32]) -> usize
     requires { ⌜ Registers (Step.And d a b) ⌝ }

@@ -25,15 +25,18 @@ pub fn put(s: Step, at: usize, out: &mut [u32]) -> usize
     at + 1
 }
 
-// Share i of register r; registers from 32 on are ADD's helpers.
+// The first helper register: they come behind a plan's.
+pub const HELPERS: u16 = StepWord::REGISTERS as u16;
+
+// Share i of register r, helpers included.
 pub fn share_cell(i: u8, r: u16) -> u16
     requires { ⌜ r < 40 ⌝ }
     ensures { λ c. ⌜ c ≡ shareCell i r ⌝ }
 {
-    if r < 32 {
+    if r < HELPERS {
         StepWord::cell(i, r as u8)
     } else {
-        StepWord::helper(i, (r - 32) as u8)
+        StepWord::helper(i, (r - HELPERS) as u8)
     }
 }
 

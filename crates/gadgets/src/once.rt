@@ -34,7 +34,7 @@ pub fn value(op: Op, x: u64, y: u64) -> u64
         Op::Not => !x,
         Op::Shl(k) => x << k,
         Op::Shr(k) => x >> k,
-        Op::Spread => (x % 2) * 18446744073709551615,
+        Op::Spread => (x % 2) * u64::MAX,
     }
 }
 

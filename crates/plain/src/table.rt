@@ -72,7 +72,7 @@ pub fn becomes(s: Step, cells: &[u64], next: u64) -> u64
         Step::Not { d: _, a } => !read(cells, a),
         Step::Shl { d: _, a, b } => shl(read(cells, a), b),
         Step::Shr { d: _, a, b } => shr(read(cells, a), b),
-        Step::Spread { d: _, a } => (read(cells, a) % 2) * 18446744073709551615,
+        Step::Spread { d: _, a } => (read(cells, a) % 2) * u64::MAX,
         Step::Add { d: _, a, b } => add(read(cells, a), read(cells, b)),
         Step::Rand { d: _ } => next,
     }

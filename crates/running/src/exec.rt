@@ -41,7 +41,7 @@ fn value(w: u32, cells: &[u64]) -> u64
         StepWord::NOT => !x,
         StepWord::SHL => x << ((w % StepWord::FIELD) % StepWord::SHIFTS),
         StepWord::SHR => x >> ((w % StepWord::FIELD) % StepWord::SHIFTS),
-        _ => (x % 2) * 18446744073709551615,
+        _ => (x % 2) * u64::MAX,
     }
 }
 

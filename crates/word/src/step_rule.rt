@@ -51,6 +51,13 @@ fn below(x: u16, limit: u16, rest: bool) -> bool
     if x < limit { rest } else { false }
 }
 
+// The step word's limits, at the width of its fields.
+const REGISTERS: u16 = StepWord::REGISTERS as u16;
+
+const CELLS: u16 = StepWord::CELLS as u16;
+
+const SHIFTS: u16 = StepWord::SHIFTS as u16;
+
 // Whether all cells are below `cells`, the shift below 64 and the constant of 18 bits.
 pub fn within(cells: u16, s: Step) -> bool
     ensures { λ r. ⌜ r ≡ spec.within cells s ⌝ }
@@ -60,8 +67,8 @@ pub fn within(cells: u16, s: Step) -> bool
         Step::Xor { d, a, b } => below(d, cells, below(a, cells, b < cells)),
         Step::And { d, a, b } => below(d, cells, below(a, cells, b < cells)),
         Step::Not { d, a } => below(d, cells, a < cells),
-        Step::Shl { d, a, b } => below(d, cells, below(a, cells, b < 64)),
-        Step::Shr { d, a, b } => below(d, cells, below(a, cells, b < 64)),
+        Step::Shl { d, a, b } => below(d, cells, below(a, cells, b < SHIFTS)),
+        Step::Shr { d, a, b } => below(d, cells, below(a, cells, b < SHIFTS)),
         Step::Spread { d, a } => below(d, cells, a < cells),
         Step::Add { d, a, b } => below(d, cells, below(a, cells, b < cells)),
         Step::Rand { d } => d < cells,
@@ -102,7 +109,7 @@ pub fn in_plan(s: Step) -> bool
     if kind_number(s) == StepWord::RAND {
         false
     } else {
-        within(32, s)
+        within(REGISTERS, s)
     }
 }
 
@@ -113,7 +120,7 @@ pub fn in_program(s: Step) -> bool
     if kind_number(s) == StepWord::ADD {
         false
     } else {
-        within(512, s)
+        within(CELLS, s)
     }
 }
 
