@@ -18,7 +18,8 @@
  *
  * SLICES. A slice is a pointer and its length in elements. The pointer has its type's usual alignment and must not be NULL, not even where the
  * length is 0. A slice that is written must not overlap any other slice of the call: a result that is also an operand, or a work slice
- * that holds a share, is undefined, and nothing turns it down. Slices that are only read may overlap.
+ * that holds a share, is undefined, and nothing turns it down. A result that shall replace an operand has calls of its own,
+ * lubewon_product_in_place and those beside it. Slices that are only read may overlap.
  *
  * TAPE. The caller lends random words, used in order from the start (share runs: from tape_place on). They must be uniform, fresh for every
  * call, and never used twice, not by two calls and not by split and a call: two masks that are equal give the secret away. The answer's
@@ -125,12 +126,23 @@ lubewon_answer lubewon_sum_shares(const uint64_t *x, size_t x_len, const uint64_
 lubewon_answer lubewon_floor_shares(const uint64_t *x, size_t x_len, uint64_t *result, size_t result_len, uint64_t *work, size_t work_len,
                                     const uint64_t *tape, size_t tape_len);
 
-/* The same on plain words; never turned down. E = 0 reads as a zero of the word's sign, whatever F; otherwise the number is (2^52 + F) times
- * 2^(E - 1075), E = 2047 included: there are no infinities, no NaN and no subnormal numbers. Product and sum: an exact result that is not
- * zero and below 2^-1022 in magnitude is a zero of its sign, before any rounding; else it is rounded to 53 bits, to the nearest, ties to
- * even; where the rounded E would be 2047 or more the result has E = 2047, F = 0. A product's sign is the exclusive-or of the signs, for zeros
- * too. A sum of two zeros is minus zero only if both are; exact cancellation gives plus zero. Floor: an operand with E >= 1075 is returned as
- * it is; E < 1023 gives plus zero, or -1 for a set sign bit, minus zero included; between, the greatest whole number not above the operand. */
+/* The same with the result in x, in place of the first operand: an accumulator needs no second array. n is x's length: y has n words, work
+ * 512. Turn-downs 1, 4, 6 and the count are as above; x and work are unchanged when the call is turned down. x is written, so y must not be
+ * x, nor overlap it: a square in place needs a copy of x as y. The shares left in x are just those that the calls above give over the same
+ * tape. */
+lubewon_answer lubewon_product_in_place(uint64_t *x, size_t x_len, const uint64_t *y, size_t y_len, uint64_t *work, size_t work_len,
+                                        const uint64_t *tape, size_t tape_len);
+lubewon_answer lubewon_sum_in_place(uint64_t *x, size_t x_len, const uint64_t *y, size_t y_len, uint64_t *work, size_t work_len,
+                                    const uint64_t *tape, size_t tape_len);
+lubewon_answer lubewon_floor_in_place(uint64_t *x, size_t x_len, uint64_t *work, size_t work_len, const uint64_t *tape, size_t tape_len);
+
+/* Product, sum and floor on plain words; never turned down. E = 0 reads as a zero of the word's sign, whatever F; otherwise the number is
+ * (2^52 + F) times 2^(E - 1075), E = 2047 included: there are no infinities, no NaN and no subnormal numbers. Product and sum: an exact result
+ * that is not zero and below 2^-1022 in magnitude is a zero of its sign, before any rounding; else it is rounded to 53 bits, to the nearest,
+ * ties to even; where the rounded E would be 2047 or more the result has E = 2047, F = 0. A product's sign is the exclusive-or of the signs,
+ * for zeros too. A sum of two zeros is minus zero only if both are; exact cancellation gives plus zero. Floor: an operand with E >= 1075 is
+ * returned as it is; E < 1023 gives plus zero, or -1 for a set sign bit, minus zero included; between, the greatest whole number not above the
+ * operand. */
 uint64_t lubewon_product(uint64_t a, uint64_t b);
 uint64_t lubewon_sum(uint64_t a, uint64_t b);
 uint64_t lubewon_floor(uint64_t a);

@@ -77,12 +77,24 @@ uint64_t try_join(uint32_t number, const uint64_t *shares, size_t shares_len) {
     return got.word;
 }
 
+void split_into(uint64_t word, uint64_t *out, size_t n) {
+    uint64_t tape[8];
+    fill(tape, n - 1);
+    CHECK(lubewon_split(word, tape, n - 1, out, n).number == 0, "split");
+}
+
 /* ---- The three operations ---- */
 
 static lubewon_answer floor_shares(const uint64_t *x, size_t x_len, const uint64_t *y, size_t y_len, uint64_t *result, size_t result_len,
                                    uint64_t *work, size_t work_len, const uint64_t *tape, size_t tape_len) {
     (void)y, (void)y_len;
     return lubewon_floor_shares(x, x_len, result, result_len, work, work_len, tape, tape_len);
+}
+
+static lubewon_answer floor_in_place(uint64_t *x, size_t x_len, const uint64_t *y, size_t y_len, uint64_t *work, size_t work_len,
+                                     const uint64_t *tape, size_t tape_len) {
+    (void)y, (void)y_len;
+    return lubewon_floor_in_place(x, x_len, work, work_len, tape, tape_len);
 }
 
 static uint64_t floor_plain(uint64_t a, uint64_t b) {
@@ -96,9 +108,9 @@ static uint64_t floor_reference(uint64_t a, uint64_t b) {
 }
 
 operation operations[] = {
-    {"product", lubewon_copy_product_plan, lubewon_product_shares, lubewon_product, ref_product, true, {0}, 0},
-    {"sum", lubewon_copy_sum_plan, lubewon_sum_shares, lubewon_sum, ref_sum, true, {0}, 0},
-    {"floor", lubewon_copy_floor_plan, floor_shares, floor_plain, floor_reference, false, {0}, 0},
+    {"product", lubewon_copy_product_plan, lubewon_product_shares, lubewon_product_in_place, lubewon_product, ref_product, true, {0}, 0},
+    {"sum", lubewon_copy_sum_plan, lubewon_sum_shares, lubewon_sum_in_place, lubewon_sum, ref_sum, true, {0}, 0},
+    {"floor", lubewon_copy_floor_plan, floor_shares, floor_in_place, floor_plain, floor_reference, false, {0}, 0},
 };
 
 lubewon_answer try_on_shares(uint32_t number, const operation *op, const uint64_t *x, size_t x_len, const uint64_t *y, size_t y_len,
@@ -112,6 +124,21 @@ lubewon_answer try_on_shares(uint32_t number, const operation *op, const uint64_
     take_back(op->name, "x", lx, NULL);
     take_back(op->name, "y", ly, NULL);
     take_back(op->name, "result", r, result);
+    take_back(op->name, "work", w, work);
+    take_back(op->name, "tape", t, NULL);
+    return got;
+}
+
+/* The reference reads the caller's own x and has a copy of it as its result. */
+lubewon_answer try_in_place(uint32_t number, const operation *op, uint64_t *x, size_t x_len, const uint64_t *y, size_t y_len, uint64_t *work,
+                            size_t work_len, const uint64_t *tape, size_t tape_len) {
+    lent lx = lend64(x, x_len), ly = lend64(y, y_len), w = lend64(work, work_len), t = lend64(tape, tape_len);
+    lubewon_answer got = op->in_place(ours(lx), x_len, ours(ly), y_len, ours(w), work_len, ours(t), tape_len);
+    agree(op->name, number, got,
+          ref_operation(op->plan, op->plan_len, x, x_len, op->two ? theirs(ly) : NULL, y_len, theirs(lx), x_len, theirs(w), work_len,
+                        theirs(t), tape_len));
+    take_back(op->name, "x in place", lx, x);
+    take_back(op->name, "y", ly, NULL);
     take_back(op->name, "work", w, work);
     take_back(op->name, "tape", t, NULL);
     return got;

@@ -22,6 +22,9 @@ lubewon_answer try_one_share_step(uint32_t number, uint32_t word, const uint64_t
 lubewon_answer try_split(uint32_t number, uint64_t word, const uint64_t *tape, size_t tape_len, uint64_t *out, size_t out_len);
 uint64_t try_join(uint32_t number, const uint64_t *shares, size_t shares_len);
 
+/* A word split over random tape words. */
+void split_into(uint64_t word, uint64_t *out, size_t n);
+
 /* ---- The three operations, with the plans that the library copies out ---- */
 
 typedef struct {
@@ -29,6 +32,7 @@ typedef struct {
     lubewon_answer (*copy)(uint32_t *, size_t);
     lubewon_answer (*on_shares)(const uint64_t *, size_t, const uint64_t *, size_t, uint64_t *, size_t, uint64_t *, size_t,
                                 const uint64_t *, size_t);
+    lubewon_answer (*in_place)(uint64_t *, size_t, const uint64_t *, size_t, uint64_t *, size_t, const uint64_t *, size_t);
     uint64_t (*plain)(uint64_t, uint64_t);
     uint64_t (*reference)(uint64_t, uint64_t);
     bool two; /* operands */
@@ -40,6 +44,8 @@ extern operation operations[3]; /* product, sum, floor */
 
 lubewon_answer try_on_shares(uint32_t number, const operation *op, const uint64_t *x, size_t x_len, const uint64_t *y, size_t y_len,
                              uint64_t *result, size_t result_len, uint64_t *work, size_t work_len, const uint64_t *tape, size_t tape_len);
+lubewon_answer try_in_place(uint32_t number, const operation *op, uint64_t *x, size_t x_len, const uint64_t *y, size_t y_len, uint64_t *work,
+                            size_t work_len, const uint64_t *tape, size_t tape_len);
 uint64_t try_plain(const operation *op, uint64_t a, uint64_t b);
 
 #endif

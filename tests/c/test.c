@@ -21,6 +21,8 @@ int main(void) {
     test_plan_copies();
     test_split_and_join();
     test_operations_on_shares();
+    test_operations_in_place();
+    test_accumulator();
     test_header();
     printf("all passed: %lu checks\n", all_checks);
     return 0;

@@ -23,11 +23,15 @@ static void limits(void) {
 /* An operation takes just the tape words that its macro says: with one fewer it is turned down. */
 static void tape_words(const operation *op, size_t n, size_t words) {
     static uint64_t tape[8192];
-    uint64_t x[LUBEWON_MOST_SHARES] = {0}, result[LUBEWON_MOST_SHARES], work[LUBEWON_WORK];
+    uint64_t x[LUBEWON_MOST_SHARES] = {0}, result[LUBEWON_MOST_SHARES] = {0}, work[LUBEWON_WORK];
     lubewon_answer answer = op->on_shares(x, n, x, n, result, n, work, LUBEWON_WORK, tape, words);
     CHECK(answer.number == LUBEWON_DONE && answer.tape == words, "header: tape words of %s, n = %zu", op->name, n);
     answer = op->on_shares(x, n, x, n, result, n, work, LUBEWON_WORK, tape, words - 1);
     CHECK(answer.number == LUBEWON_TAPE_SHORT, "header: fewer tape words for %s, n = %zu", op->name, n);
+    answer = op->in_place(result, n, x, n, work, LUBEWON_WORK, tape, words);
+    CHECK(answer.number == LUBEWON_DONE && answer.tape == words, "header: tape words of %s in place, n = %zu", op->name, n);
+    answer = op->in_place(result, n, x, n, work, LUBEWON_WORK, tape, words - 1);
+    CHECK(answer.number == LUBEWON_TAPE_SHORT, "header: fewer tape words for %s in place, n = %zu", op->name, n);
 }
 
 static void splitting(size_t n) {

@@ -44,12 +44,6 @@ void test_split_and_join(void) {
 
 /* ---- Operations on shares, by the plans that test_plan_copies left ---- */
 
-static void split_into(uint64_t word, uint64_t *out, size_t n) {
-    uint64_t tape[8];
-    fill(tape, n - 1);
-    CHECK(lubewon_split(word, tape, n - 1, out, n).number == 0, "split");
-}
-
 /* The library's own share run over its own translation of the copied plan, on zeroed cells with the operands placed. */
 static void by_share_run(const operation *op, size_t n, const uint64_t *x, const uint64_t *y, const uint64_t *tape, size_t tape_len,
                          uint64_t *result) {

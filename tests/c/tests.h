@@ -23,6 +23,10 @@ void test_plan_copies(void);
 void test_split_and_join(void);
 void test_operations_on_shares(void);
 
+/* test_in_place.c */
+void test_operations_in_place(void);
+void test_accumulator(void);
+
 /* test_header.c */
 void test_header(void);
 

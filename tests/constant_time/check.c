@@ -37,6 +37,15 @@ static void operations(size_t n) {
     done("floor", n, lubewon_floor_shares(x, n, result, n, work, LUBEWON_WORK, tape, TAPE));
 }
 
+static void operations_in_place(size_t n) {
+    all_secret();
+    done("product in place", n, lubewon_product_in_place(x, n, y, n, work, LUBEWON_WORK, tape, TAPE));
+    all_secret();
+    done("sum in place", n, lubewon_sum_in_place(x, n, y, n, work, LUBEWON_WORK, tape, TAPE));
+    all_secret();
+    done("floor in place", n, lubewon_floor_in_place(x, n, work, LUBEWON_WORK, tape, TAPE));
+}
+
 /* In a go, in pieces, and step by step. */
 static void share_runs(size_t n) {
     lubewon_answer m = lubewon_translate(n, plan, PLAN, program, PROGRAM);
@@ -77,6 +86,7 @@ int main(int argc, char **argv) {
     (void)argv;
     for (size_t n = LUBEWON_LEAST_SHARES; n <= LUBEWON_MOST_SHARES; n++) {
         operations(n);
+        operations_in_place(n);
         share_runs(n);
         split_and_join(n);
     }

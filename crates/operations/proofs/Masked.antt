@@ -1,7 +1,8 @@
 -- All that is proved of the operations on shares: one record over any plan that computes an operation, at each built-in plan.
+use mathlib.Core.Path.{_≡_, sym, subst}
 use mathlib.Core.List.{List}
 use Prim.Native.Nat.{ℕ}
-use Rattle.binary64.specs.Operations.{onWords}
+use Rattle.binary64.specs.Operations.{Operation, onWords}
 use Rattle.plans.specs.Computes.{Computes}
 use Rattle.plans.specs.BuiltIns.{planOf}
 use Rattle.plans.proofs.BuiltIns.{built-ins}
@@ -27,3 +28,11 @@ on-shares plan op C =
 
 pub masked : Masked
 masked o = on-shares (planOf o) (onWords o) (built-ins o .computes)
+
+-- words that are a built-in plan's are a good plan
+pub good-words : (o : Operation) {words : List ℕ} → words ≡ planOf o → GoodPlan words
+good-words o e = subst GoodPlan (sym e) (good (built-ins o .computes))
+
+-- what a call leaves, and with it what is proved of every operation
+pub with-masked : {A B C : Type 0} → A × (B × C) → A × (B × (C × Masked))
+with-masked h = (h .0, (h .1 .0, (h .1 .1, masked)))

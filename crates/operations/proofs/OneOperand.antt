@@ -10,7 +10,8 @@ use Rattle.checks.specs.Answers.{refused, afterCall}
 use Rattle.word.specs.Layout.{isShareCount}
 use Rattle.word.proofs.Small.{share-range}
 use Rattle.masking.proofs.emitted.Counts.{by-count}
-use Rattle.operations.specs.Shares.{operationAnswer, callAnswer, resultAfter, workAfter, zerosFor}
+use Rattle.operations.specs.Shares.{operationAnswer, callAnswer, zerosFor}
+use Rattle.operations.proofs.Acting.{Left}
 
 zeros-same : (n : ℕ) → 2 ≤ n → n ≤ 8 → take (min n 8) (replicate {A = ℕ} 8 0) ≡ replicate n 0
 zeros-same = by-count (λ n. take (min n 8) (replicate {A = ℕ} 8 0) ≡ replicate n 0) refl refl refl refl refl refl refl
@@ -18,8 +19,7 @@ zeros-same = by-count (λ n. take (min n 8) (replicate {A = ℕ} 8 0) ≡ replic
 module _ (plan x result work tape : List ℕ) where
   -- what a call with second operand y leaves
   abbrev Given : List ℕ → Answer → List ℕ → List ℕ → Type 0
-  Given y r res wrk =
-      (r ≡ callAnswer plan x y result work tape) × ((res ≡ resultAfter plan x y result work tape) × (wrk ≡ workAfter plan x y result work tape))
+  Given y r res wrk = Left plan x y result work tape r res wrk
 
   down : isShareCount (length x) ≡ false → (y : List ℕ) → callAnswer plan x y result work tape ≡ refused 1
   unfolding operationAnswer

@@ -41,7 +41,8 @@ finished plan n x y tape = runCells (program n plan) tape (standing (placed x y)
 unfoldable pub resultShares : List ℕ → ℕ → List ℕ → List ℕ → List ℕ → List ℕ
 resultShares plan n x y tape = map (λ i. getD (finished plan n x y tape) (cell i 2) 0) (shares n)
 
--- A call on lent slices, by its plan: the answer, the result afterwards, and the work slice afterwards. Each operation is an instance.
+-- A call on lent slices, by its plan: the answer, the result afterwards, and the work slice afterwards. Each operation is an instance. So is
+-- each call in place, which document 01 does not have: there x is the result slice too, and `resultAfter` says what it holds afterwards.
 module _ (plan x y result work tape : List ℕ) where
   abbrev pub callAnswer : Answer
   callAnswer = operationAnswer plan (length x) (length y) (length result) (length work) (length tape)

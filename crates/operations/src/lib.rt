@@ -1,15 +1,18 @@
 // Product, sum and floor on shares: one operation over the words of each plan. `specs/` has the definitions that the contracts cite.
 ghost use mathlib.Core.Path.{_≡_};
-ghost use Prim.Native.Nat.{min};
 ghost use Rattle.plans.specs.ProductPlan.{productPlan};
 ghost use Rattle.plans.specs.SumPlan.{sumPlan};
 ghost use Rattle.plans.specs.FloorPlan.{floorPlan};
 ghost use Rattle.operations.specs.Masked.{Masked};
 ghost use Rattle.operations.specs.Shares.{callAnswer, resultAfter, workAfter, zerosFor};
+use crate::one_operand::NONE;
+use crate::one_operand::at_most_eight;
 use crate::operation::operation;
 use checks::answer::Answer;
 
 mod counts;
+pub mod in_place;
+mod one_operand;
 mod operation;
 mod work;
 
@@ -34,15 +37,6 @@ pub fn sum(x: &[u64], y: &[u64], result: &mut [u64], work: &mut [u64], tape: &[u
 {
     let plan = plans::sum_table::words();
     operation(&plan, x, y, result, work, tape)
-}
-
-// Zeros for the second operand of an operation with one: as many as the first has words, eight at most, which is all that is not turned down.
-const NONE: [u64; 8] = [0; 8];
-
-fn at_most_eight(n: usize) -> usize
-    ensures { λ r. ⌜ r ≡ min n 8 ⌝ }
-{
-    if n < 8 { n } else { 8 }
 }
 
 // The floor of a shared operand x, likewise.

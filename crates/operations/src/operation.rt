@@ -1,4 +1,4 @@
-// One operation over a plan's words.
+// One operation over a plan's words: its answer, what it does, and the call with a result slice of its own.
 ghost use mathlib.Core.Path.{_≡_};
 ghost use Prim.Native.Nat.{_≤_};
 ghost use lib.ListN.{length};
@@ -17,7 +17,7 @@ use checks::share_count::is_share_count;
 use word::step_word::StepWord;
 
 // The answer: the turn-downs in number order.
-fn operation_answer(
+pub(crate) fn operation_answer(
     plan: &[u32],
     n: usize,
     other: usize,
@@ -61,7 +61,7 @@ fn run(plan: &[u32], n: usize, tape: &[u64], cells: &mut [u64])
 }
 
 // Zeros with the operands placed, and the plan's words on them.
-fn finish(plan: &[u32], x: &[u64], y: &[u64], tape: &[u64], work: &mut [u64])
+pub(crate) fn finish(plan: &[u32], x: &[u64], y: &[u64], tape: &[u64], work: &mut [u64])
     requires { ⌜ Accepted (length (now x)) (now plan) × (length (now y) ≤ 8) × (length (now work) ≡ 512) × (foretoldTape (length (now x)) (now plan) ≤ length (now tape)) ⌝ }
     ensures { λ _. ⌜ now (work .exit) ≡ finished (now (plan .entry)) (length (now (x .entry))) (now (x .entry)) (now (y .entry)) (now (tape .entry)) ⌝ }
 {

@@ -1,5 +1,5 @@
 -- `operations::floor` meets its contract.
-use mathlib.Core.Path.{sym, subst}
+use mathlib.Core.Path.{sym}
 use native.Mathlib.Omega.{arith}
 use lib.ListN.{replicate}
 use lib.Seq.{length-take-le}
@@ -7,10 +7,8 @@ use borrow.Author.Needs.{needs}
 use denote.Ref.{now}
 use Rattle.binary64.specs.Operations.{Floor}
 use Rattle.plans.specs.FloorPlan.{floorPlan}
-use Rattle.plans.proofs.BuiltIns.{built-ins}
-use Rattle.operations.specs.Inner.{GoodPlan}
 use Rattle.operations.proofs.OneOperand.{one-operand}
-use Rattle.operations.proofs.Masked.{good, masked}
+use Rattle.operations.proofs.Masked.{good-words, with-masked}
 use Rattle.operations.proofs.floor.Statement.{statement}
 use Rattle.operations.proofs.floor.Tie as tie
 
@@ -18,14 +16,14 @@ slice-aggregate-operation-2 : tie.Need-slice-aggregate-operation-2
 slice-aggregate-operation-2 c = sym (length-take-le _ (replicate 8 0) (omega (arith, c .before .before .at-most-eight .ensures)))
 
 operation-requires : tie.Need-operation-requires
-operation-requires c κs = subst GoodPlan (sym (c .before .before .before .before .before .words .ensures)) (good (built-ins Floor .computes))
+operation-requires c κs = good-words Floor (c .before .before .before .before .before .words .ensures)
 
 returns : tie.Need-returns
 returns c =
-    let a = c .before .before .before .before .before .before .before .before .before .before .before .before .before .before .before .args in
-    let h = rw (c .before .before .before .before .before .before .before .before .before .before .words .ensures, c .before .before .before .before .before .before .before .before .before .at-most-eight .ensures) at (c .before .before .before .before .operation .ensures) in
-    let g = one-operand floorPlan (now (a .x)) (now (a .result)) (now (a .work)) (now (a .tape)) h in
-    (g .0, (g .1 .0, (g .1 .1, masked)))
+    let m = c .before .before .before .before .before .before .before .before .before in
+    let a = m .before .before .before .before .before .before .args in
+    let h = rw (m .before .words .ensures, m .at-most-eight .ensures) at (c .before .before .before .before .operation .ensures) in
+    with-masked (one-operand floorPlan (now (a .x)) (now (a .result)) (now (a .work)) (now (a .tape)) h)
 
 pub floor-spec : {M : Type 1} → statement M
 floor-spec =

@@ -1,20 +1,15 @@
 -- `operations::product` meets its contract.
-use mathlib.Core.Path.{sym, subst}
 use borrow.Author.Needs.{needs}
 use Rattle.binary64.specs.Operations.{Product}
-use Rattle.plans.proofs.BuiltIns.{built-ins}
-use Rattle.operations.specs.Inner.{GoodPlan}
-use Rattle.operations.proofs.Masked.{good, masked}
+use Rattle.operations.proofs.Masked.{good-words, with-masked}
 use Rattle.operations.proofs.product.Statement.{statement}
 use Rattle.operations.proofs.product.Tie as tie
 
 operation-requires : tie.Need-operation-requires
-operation-requires c κs = subst GoodPlan (sym (c .before .before .before .words .ensures)) (good (built-ins Product .computes))
+operation-requires c κs = good-words Product (c .before .before .before .words .ensures)
 
 returns : tie.Need-returns
-returns c =
-    let h = rw (c .before .before .before .before .before .before .before .before .words .ensures) at (c .before .before .before .before .operation .ensures) in
-    (h .0, (h .1 .0, (h .1 .1, masked)))
+returns c = with-masked (rw (c .before .before .before .before .before .before .before .before .words .ensures) at (c .before .before .before .before .operation .ensures))
 
 pub product-spec : {M : Type 1} → statement M
 product-spec =
