@@ -32,7 +32,8 @@ use Rattle.binary64.specs.Corners.{Corners}
 use Rattle.plans.specs.Computes.{Computes}
 use Rattle.plans.specs.Cost.{Cost, Figures}
 use Rattle.plans.specs.BuiltIns.{BuiltIn}
-use Rattle.operations.specs.Masked.{Operand, StepSecret, WholeRun, OnShares}
+use Rattle.operations.specs.Masked.{Operand, StepSecret, OnShares}
+use Rattle.execution.specs.WholeRun.{WholeRun}
 use Rattle.splitting.specs.SplitJoin.{SplitJoins}
 use Rattle.lubewon.specs.TurnDowns.{TurnDowns}
 

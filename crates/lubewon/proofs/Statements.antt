@@ -37,8 +37,9 @@ use Rattle.plans.specs.ProductPlan.{productPlan}
 use Rattle.plans.specs.SumPlan.{sumPlan}
 use Rattle.plans.specs.FloorPlan.{floorPlan}
 use Rattle.plans.specs.Computes.{Computes}
-use Rattle.operations.specs.Shares.{callAnswer, resultAfter, resultShares}
-use Rattle.operations.specs.Masked.{WholeRun, StepSecret, OnShares}
+use Rattle.execution.specs.Shares.{callAnswer, resultAfter, resultShares}
+use Rattle.operations.specs.Masked.{StepSecret, OnShares}
+use Rattle.execution.specs.WholeRun.{WholeRun}
 use Rattle.splitting.specs.SplitJoin.{xorAll, splitOf, splitAnswer, splitOut, joinedWord}
 use Rattle.listing.specs.Sharelist.{listing}
 use Rattle.listing.specs.Pieces.{piecesFrom}

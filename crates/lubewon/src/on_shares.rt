@@ -4,7 +4,7 @@ ghost use Rattle.plans.specs.ProductPlan.{productPlan};
 ghost use Rattle.plans.specs.SumPlan.{sumPlan};
 ghost use Rattle.plans.specs.FloorPlan.{floorPlan};
 ghost use Rattle.operations.specs.Masked.{Masked};
-ghost use Rattle.operations.specs.Shares.{callAnswer, resultAfter, workAfter, zerosFor};
+ghost use Rattle.execution.specs.Shares.{callAnswer, resultAfter, workAfter, zerosFor};
 use checks::answer::Answer;
 
 // The product of shared operands; `work` has 512 words and is zeros afterwards.

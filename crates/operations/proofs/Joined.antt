@@ -18,10 +18,10 @@ use Rattle.masking.specs.Unsplit.{xorOver, joined, unsplit}
 use Rattle.masking.proofs.joined.Plan.{joined-after}
 use Rattle.masking.proofs.joined.Sums.{sum-lt}
 use Rattle.plans.specs.Computes.{Computes}
-use Rattle.operations.specs.Shares.{placed, finished, resultShares}
+use Rattle.execution.specs.Shares.{placed, finished, resultShares}
 use Rattle.splitting.specs.SplitJoin.{xorAll}
 use Rattle.operations.specs.Masked.{Operand, Joins}
-use Rattle.operations.proofs.Plans.{finished-is}
+use Rattle.execution.proofs.Plans.{finished-is}
 use Rattle.operations.proofs.Placed.{placed-start, joins-0, joins-1}
 
 -- the exclusive-or of a list over share numbers

@@ -7,8 +7,8 @@ use Rattle.plans.specs.Computes.{Computes}
 use Rattle.plans.specs.BuiltIns.{planOf}
 use Rattle.plans.proofs.BuiltIns.{built-ins}
 use Rattle.operations.specs.Masked.{OnShares, Masked}
-use Rattle.operations.specs.Inner.{GoodPlan}
-use Rattle.operations.proofs.Plans.{runs-whole}
+use Rattle.execution.specs.Inner.{GoodPlan}
+use Rattle.execution.proofs.Plans.{runs-whole}
 use Rattle.operations.proofs.Joined.{plan-joins}
 use Rattle.operations.proofs.CallJoined.{call-joins}
 use Rattle.operations.proofs.Secret.{operation-secret}

@@ -10,8 +10,8 @@ use Rattle.checks.specs.Answers.{refused, afterCall}
 use Rattle.word.specs.Layout.{isShareCount}
 use Rattle.word.proofs.Small.{share-range}
 use Rattle.masking.proofs.emitted.Counts.{by-count}
-use Rattle.operations.specs.Shares.{operationAnswer, callAnswer, zerosFor}
-use Rattle.operations.proofs.Acting.{Left}
+use Rattle.execution.specs.Shares.{operationAnswer, callAnswer, zerosFor}
+use Rattle.execution.proofs.Acting.{Left}
 
 zeros-same : (n : ℕ) → 2 ≤ n → n ≤ 8 → take (min n 8) (replicate {A = ℕ} 8 0) ≡ replicate n 0
 zeros-same = by-count (λ n. take (min n 8) (replicate {A = ℕ} 8 0) ≡ replicate n 0) refl refl refl refl refl refl refl

@@ -17,8 +17,8 @@ use Rattle.masking.specs.Unsplit.{xorOver, joined}
 use Rattle.masking.specs.Secrecy.{Agree}
 use Rattle.plain.proofs.Laws.{set-words}
 use Rattle.masking.proofs.joined.Sums.{sum-same}
-use Rattle.operations.proofs.Filling.{placed-size}
-use Rattle.operations.specs.Shares.{placedIn, placed}
+use Rattle.execution.proofs.Filling.{placed-size}
+use Rattle.execution.specs.Shares.{placedIn, placed}
 use Rattle.splitting.specs.SplitJoin.{xorAll}
 
 -- ---- exclusive-ors of n words

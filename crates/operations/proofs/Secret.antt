@@ -6,7 +6,7 @@ use native.Mathlib.Omega.{arith}
 use lib.ListN.{length}
 use Rattle.masking.proofs.Demand3.{demand3}
 use Rattle.plans.specs.Computes.{Computes}
-use Rattle.operations.specs.Shares.{placed}
+use Rattle.execution.specs.Shares.{placed}
 use Rattle.operations.specs.Masked.{Operand, Secretive}
 use Rattle.operations.proofs.Placed.{placed-start, placed-agree}
 use Rattle.operations.proofs.Joined.{accepted}

@@ -1,4 +1,2 @@
--- The operations on shares as calls (Shares), and what is proved of them (Masked). Inner holds names that inner contracts cite.
-pub mod Shares
+-- What is proved of the operations on shares.
 pub mod Masked
-pub mod Inner

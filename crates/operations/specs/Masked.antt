@@ -4,7 +4,6 @@ use mathlib.Core.Path.{_≡_}
 use mathlib.Core.List.{List}
 use Prim.Native.Nat.{ℕ, _≤_, _<_}
 use lib.ListN.{length, getD}
-use Rattle.checks.specs.Answers as answers
 use Rattle.masking.specs.Translation.{program}
 use Rattle.masking.specs.Foretold.{foretoldTape}
 use Rattle.masking.specs.Machine.{Words}
@@ -12,7 +11,8 @@ use Rattle.masking.specs.Secrecy.{Hidden}
 use Rattle.binary64.specs.Operations.{Operation, onWords}
 use Rattle.plans.specs.BuiltIns.{planOf}
 use Rattle.splitting.specs.SplitJoin.{xorAll}
-use Rattle.operations.specs.Shares.{placed, wholeRun, resultShares, callAnswer, resultAfter}
+use Rattle.execution.specs.Shares.{placed, resultShares, callAnswer, resultAfter}
+use Rattle.execution.specs.WholeRun.{RunsWhole}
 
 -- n shares
 pub record Operand (n : ℕ) (x : List ℕ) : Type 0 where
@@ -41,15 +41,6 @@ abbrev pub CallJoins : List ℕ → (ℕ → ℕ → ℕ) → Type 0
 CallJoins plan op =
     (x y result work tape : List ℕ) → Words x → Words y → Words tape → callAnswer plan x y result work tape .number ≡ 0
     → xorAll (resultAfter plan x y result work tape) ≡ op (xorAll x) (xorAll y)
-
--- the share run that defines a result goes over the whole program and uses just the tape words that the call's answer gives; over a shorter
--- tape it is turned down with the call's number
-pub record WholeRun (plan : List ℕ) (n : ℕ) (x y tape : List ℕ) : Type 0 where
-  pub done : foretoldTape n plan ≤ length tape → wholeRun plan n x y tape ≡ answers.done (length (program n plan)) (foretoldTape n plan)
-  pub short : length tape < foretoldTape n plan → wholeRun plan n x y tape ≡ answers.refused 6
-
-abbrev pub RunsWhole : List ℕ → Type 0
-RunsWhole plan = (n : ℕ) → 2 ≤ n → n ≤ 8 → (x y tape : List ℕ) → WholeRun plan n x y tape
 
 -- what is proved of an operation on shares, over its plan and the operation on words; one with a single operand does not
 -- look at the second, which its call sets to zeros

@@ -3,38 +3,12 @@ ghost use mathlib.Core.Path.{_≡_};
 ghost use Rattle.plans.specs.ProductPlan.{productPlan};
 ghost use Rattle.plans.specs.SumPlan.{sumPlan};
 ghost use Rattle.plans.specs.FloorPlan.{floorPlan};
-ghost use Rattle.operations.specs.Inner.{GoodPlan};
 ghost use Rattle.operations.specs.Masked.{Masked};
-ghost use Rattle.operations.specs.Shares.{callAnswer, resultAfter, workAfter, zerosFor};
+ghost use Rattle.execution.specs.Shares.{callAnswer, resultAfter, workAfter, zerosFor};
 use crate::one_operand::NONE;
 use crate::one_operand::at_most_eight;
-use crate::operation::finish;
-use crate::operation::operation_answer;
-use crate::work::clear;
-use crate::work::copy_out;
 use checks::answer::Answer;
-
-// An operation by its plan that replaces its first operand.
-fn operation_in_place(
-    plan: &[u32],
-    x: &mut [u64],
-    y: &[u64],
-    work: &mut [u64],
-    tape: &[u64],
-) -> Answer
-    requires { ⌜ GoodPlan (now plan) ⌝ }
-    ensures answer { λ r. ⌜ r ≡ callAnswer (now (plan .entry)) (now (x .entry)) (now (y .entry)) (now (x .entry)) (now (work .entry)) (now (tape .entry)) ⌝ }
-    ensures x { λ _. ⌜ now (x .exit) ≡ resultAfter (now (plan .entry)) (now (x .entry)) (now (y .entry)) (now (x .entry)) (now (work .entry)) (now (tape .entry)) ⌝ }
-    ensures work { λ _. ⌜ now (work .exit) ≡ workAfter (now (plan .entry)) (now (x .entry)) (now (y .entry)) (now (x .entry)) (now (work .entry)) (now (tape .entry)) ⌝ }
-{
-    let answer = operation_answer(plan, x.len(), y.len(), x.len(), work.len(), tape.len());
-    if answer.number == 0 {
-        finish(plan, x, y, tape, work);
-        copy_out(work, x);
-        clear(work);
-    }
-    answer
-}
+use execution::in_place::operation_in_place;
 
 // The product of shared operands x and y: its shares in x. Turned down with 1 where the shares are not 2 to 8, 4 where y or `work` has the wrong
 // length, 6 where the tape is too short; all is then as it was. `work` has 512 words, zeros afterwards. What holds of it is `Masked`.

@@ -4,17 +4,14 @@ ghost use Rattle.plans.specs.ProductPlan.{productPlan};
 ghost use Rattle.plans.specs.SumPlan.{sumPlan};
 ghost use Rattle.plans.specs.FloorPlan.{floorPlan};
 ghost use Rattle.operations.specs.Masked.{Masked};
-ghost use Rattle.operations.specs.Shares.{callAnswer, resultAfter, workAfter, zerosFor};
+ghost use Rattle.execution.specs.Shares.{callAnswer, resultAfter, workAfter, zerosFor};
 use crate::one_operand::NONE;
 use crate::one_operand::at_most_eight;
-use crate::operation::operation;
 use checks::answer::Answer;
+use execution::operation::operation;
 
-mod counts;
 pub mod in_place;
 mod one_operand;
-mod operation;
-mod work;
 
 // The product of shared operands x and y: its shares in `result`. Turned down with 1 where the shares are not 2 to 8, 4 where a slice has the
 // wrong length, 6 where the tape is too short; all is then as it was. `work` has 512 words, zeros afterwards. What holds of it is `Masked`.

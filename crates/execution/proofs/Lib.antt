@@ -1,0 +1,7 @@
+-- For a call over any plan: tape words (Tape), slices filled (Filling), a plan's words in order and the share run (Plans), answers (Answering)
+-- and what a call leaves (Acting).
+mod Tape
+pub mod Filling
+pub mod Plans
+pub mod Answering
+pub mod Acting

@@ -1,0 +1,78 @@
+-- A plan's words done one after the other, and the share run that the result is defined by. Rests on masking's InARow and Counts.
+use mathlib.Core.Path.{_≡_, refl, sym, ap, ap₂, _∙_}
+use mathlib.Core.List.{List, _∷_, _++_}
+use Prim.Native.Nat.{ℕ, _+_, _-_, _≤_, _<_, min}
+use native.Mathlib.Numerals.{add-one}
+use native.Mathlib.Omega.{arith}
+use lib.ListN.{length, getD, drop, replicate, length-replicate}
+use lib.Seq.{drop-cons, take-all}
+use Rattle.word.specs.declared.step.Step.{Step}
+use Rattle.word.specs.declared.step.Decoded.{Decoded}
+use Rattle.word.specs.declared.step.Decoded.the-variants.{Good, Bad}
+use Rattle.checks.specs.declared.answer.Answer.{Answer}
+use Rattle.word.specs.Encoding.{planStep}
+use Rattle.checks.specs.Answers.{firstBad, done, afterCall}
+use Rattle.checks.proofs.Checking.{first-bad}
+use Rattle.masking.specs.Translation.{wordsFor, program}
+use Rattle.masking.specs.Foretold.{Accepted, foretoldTape}
+use Rattle.masking.specs.Machine.{stepsOf, exec, rands}
+use Rattle.masking.specs.Runs.{due, standing}
+use Rattle.masking.proofs.emitted.Counts.{plan-counts}
+use Rattle.masking.specs.Demand3.{EachRun}
+use Rattle.masking.proofs.InARow.{each-run, steps-append}
+use Rattle.execution.specs.Shares.{placed, finished}
+use Rattle.execution.specs.WholeRun.{WholeRun, RunsWhole}
+use Rattle.execution.specs.Inner.{GoodPlan}
+use Rattle.blocks.specs.PlanWords.{GoodPlanWord, IsGood}
+use Rattle.execution.proofs.Filling.{placed-size}
+
+-- the share steps of a plan's words from i on
+pub plan-turn : (n : ℕ) (plan : List ℕ) (i : ℕ) → i < length plan
+    → stepsOf (program n (drop i plan)) ≡ stepsOf (wordsFor n (planStep (getD plan i 0))) ++ stepsOf (program n (drop (i + 1) plan))
+plan-turn n plan i h =
+    ap (λ (l : List ℕ). stepsOf (program n l)) (drop-cons plan i 0 h ∙ ap (λ (k : ℕ). getD plan i 0 ∷ drop k plan) (sym (add-one i)))
+    ∙ steps-append (wordsFor n (planStep (getD plan i 0))) (program n (drop (i + 1) plan))
+
+-- each of its words is good
+pub plan-word : (plan : List ℕ) → firstBad planStep plan ≡ length plan → (i : ℕ) → i < length plan → GoodPlanWord (getD plan i 0)
+plan-word plan e i h = by (planStep (getD plan i 0)) (first-bad planStep plan .good i (omega arith))
+  where
+    by : (d : Decoded) → (s : Step) × (d ≡ Good s) → IsGood d
+    by (Good s) q = tt
+    by Bad q = let z : _≡_ {A = ℕ} 0 1 = cc (q .1) in absurd (omega arith)
+
+-- the share run over the whole program
+module _ (n : ℕ) (plan x y tape : List ℕ) (A : Accepted n plan) where
+  abbrev P : List ℕ
+  P = program n plan
+
+  all : due P 0 (length P) ≡ P
+  all = take-all (length P) P (omega arith)
+
+  used : rands (due P 0 (length P)) ≡ foretoldTape n plan
+  used = ap rands all ∙ plan-counts n plan A .tape
+
+  begun : EachRun P tape (standing (placed x y) 0 0) (length P)
+  unfolding placed
+  begun =
+      let C = plan-counts n plan A in
+      let size : length (placed x y) ≡ 512 = placed-size 1 0 y _ ∙ placed-size 0 0 x (replicate 512 0) ∙ length-replicate {A = ℕ} 512 0 in
+      each-run P tape (placed x y) 0 (C .longest) (C .good) _ (record { within = omega arith; tapeAt = refl; inTape = omega arith; cells = refl; size = size }) (length P)
+
+  -- it does all of it where the tape is long enough, and is turned down where not
+  pub whole-run : WholeRun plan n x y tape
+  whole-run =
+      let m : min (length P) (length P - 0) ≡ length P = omega arith in
+      record {
+        done = λ h. begun .else (omega (arith, used)) ∙ ap₂ done m used;
+        short = λ h. begun .short (omega (arith, used)) .0;
+      }
+
+  pub finished-is : foretoldTape n plan ≤ length tape → finished plan n x y tape ≡ exec (program n plan) tape (placed x y)
+  unfolding finished
+  finished-is h =
+      ap (λ (a : Answer). afterCall a (exec (due P 0 (length P)) tape (placed x y)) (placed x y)) (whole-run .done h)
+      ∙ ap (λ (p : List ℕ). exec p tape (placed x y)) all
+
+pub runs-whole : (plan : List ℕ) → GoodPlan plan → RunsWhole plan
+runs-whole plan G n l m x y tape = whole-run n plan x y tape (record { least = l; most = m; short = G .short; good = G .good })

@@ -1,0 +1,69 @@
+// The work slice: cleared, operands placed, the result copied out.
+ghost use mathlib.Core.Path.{_≡_};
+ghost use mathlib.Core.List.{map};
+ghost use Prim.Native.Nat.{_≤_, _<_};
+ghost use lib.ListN.{getD, length, replicate};
+ghost use Rattle.word.specs.Layout.{cell};
+ghost use Rattle.masking.specs.Translation.{shares};
+ghost use Rattle.execution.specs.Shares.{placedIn};
+use word::step_word::StepWord;
+
+fn zeros(cells: &mut [u64])
+    ensures { λ _. ⌜ now (cells .exit) ≡ replicate (length (now (cells .entry))) 0 ⌝ }
+{
+    let mut i = 0;
+    while i < cells.len() {
+        cells[i] = 0;
+        i += 1;
+    }
+}
+
+// Words cleared at a time. A longer run of zeros would be left to the C library, which stores it byte by byte.
+const PART: usize = 64;
+
+// Where a part that begins at `at` ends.
+fn part_end(at: usize, length: usize) -> usize
+    requires { ⌜ at < length ⌝ }
+    ensures { λ r. ⌜ (at < r) × (r ≤ length) ⌝ }
+{
+    if length - at < PART {
+        length
+    } else {
+        at + PART
+    }
+}
+
+pub(crate) fn clear(cells: &mut [u64])
+    ensures { λ _. ⌜ now (cells .exit) ≡ replicate (length (now (cells .entry))) 0 ⌝ }
+{
+    let mut at = 0;
+    while at < cells.len() {
+        let end = part_end(at, cells.len());
+        zeros(&mut cells[at..end]);
+        at = end;
+    }
+}
+
+// An operand's shares into register r.
+pub(crate) fn place(r: usize, x: &[u64], cells: &mut [u64])
+    requires { ⌜ (r < 32) × (length (now x) ≤ 8) × (length (now cells) ≡ 512) ⌝ }
+    ensures { λ _. ⌜ now (cells .exit) ≡ placedIn r 0 (now (x .entry)) (now (cells .entry)) ⌝ }
+{
+    let mut i = 0;
+    while i < x.len() {
+        cells[StepWord::REGISTERS * i + r] = x[i];
+        i += 1;
+    }
+}
+
+// The shares of register 2.
+pub(crate) fn copy_out(cells: &[u64], result: &mut [u64])
+    requires { ⌜ (length (now result) ≤ 8) × (length (now cells) ≡ 512) ⌝ }
+    ensures { λ _. ⌜ now (result .exit) ≡ map (λ i. getD (now (cells .entry)) (cell i 2) 0) (shares (length (now (result .entry)))) ⌝ }
+{
+    let mut i = 0;
+    while i < result.len() {
+        result[i] = cells[StepWord::REGISTERS * i + 2];
+        i += 1;
+    }
+}
