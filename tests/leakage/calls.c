@@ -1,0 +1,113 @@
+/* The calls that are watched, and the operands of a run: in group 0 always the same, in group 1 drawn anew, on fresh shares and a fresh tape in
+ * both. To watch a further call write a function for it and add a row. */
+#include "leak.h"
+#include <string.h>
+#include <sys/random.h>
+
+size_t shares;
+uint64_t x[8], y[8], result[8], work[LUBEWON_WORK], tape[TAPE];
+lubewon_answer answer;
+static uint64_t operand[2], drawn[2][8];
+
+/* ---- One function a call ---- */
+static void product(void) {
+    answer = lubewon_product_shares(x, shares, y, shares, result, shares, work, LUBEWON_WORK, tape, TAPE);
+}
+
+static void sum(void) {
+    answer = lubewon_sum_shares(x, shares, y, shares, result, shares, work, LUBEWON_WORK, tape, TAPE);
+}
+
+static void floored(void) {
+    answer = lubewon_floor_shares(x, shares, result, shares, work, LUBEWON_WORK, tape, TAPE);
+}
+
+static void product_in_place(void) {
+    answer = lubewon_product_in_place(x, shares, y, shares, work, LUBEWON_WORK, tape, TAPE);
+}
+
+static void sum_in_place(void) {
+    answer = lubewon_sum_in_place(x, shares, y, shares, work, LUBEWON_WORK, tape, TAPE);
+}
+
+static void floor_in_place(void) {
+    answer = lubewon_floor_in_place(x, shares, work, LUBEWON_WORK, tape, TAPE);
+}
+
+static uint64_t plain_floor(uint64_t a, uint64_t b) {
+    (void)b;
+    return lubewon_floor(a);
+}
+
+/* ---- The one table: name, call, what its result joins to, where the result is ---- */
+static const call_row rows[] = {
+    {"product", product, lubewon_product, result},
+    {"sum", sum, lubewon_sum, result},
+    {"floor", floored, plain_floor, result},
+    {"product_in_place", product_in_place, lubewon_product, x},
+    {"sum_in_place", sum_in_place, lubewon_sum, x},
+    {"floor_in_place", floor_in_place, plain_floor, x},
+    {"control", control, NULL, result},
+    {"joins", sabotage_joins, plain_floor, result},
+    {"and", sabotage_and, NULL, result},
+    {"register", sabotage_register, NULL, result},
+    {"memory", sabotage_memory, NULL, result},
+    {"push", sabotage_push, NULL, result},
+    {"vector", sabotage_vector, NULL, result},
+    {"string", sabotage_string, NULL, result},
+    {"exchange", sabotage_exchange, NULL, result},
+    {"branch", sabotage_branch, NULL, result},
+    {"jump", sabotage_jump, NULL, result},
+    {"unknown", sabotage_unknown, NULL, result},
+    {"outside", sabotage_outside, NULL, result},
+};
+
+const call_row *call_named(const char *name) {
+    for (size_t k = 0; k < sizeof rows / sizeof *rows; k++)
+        if (strcmp(rows[k].name, name) == 0) return &rows[k];
+    return NULL;
+}
+
+/* ---- Operands ---- */
+uint64_t random_word(void) {
+    static uint64_t pool[4096];
+    static size_t at = sizeof pool / sizeof *pool;
+    if (at == sizeof pool / sizeof *pool) {
+        for (size_t got = 0; got < sizeof pool;) {
+            ssize_t more = getrandom((char *)pool + got, sizeof pool - got, 0);
+            if (more > 0) got += (size_t)more;
+        }
+        at = 0;
+    }
+    return pool[at++];
+}
+
+/* A normal number: every second one with an exponent near 0, where operands meet, the others with any. */
+static uint64_t random_number(void) {
+    uint64_t word = random_word(), choice = random_word();
+    uint64_t exponent = choice & 1 ? 991 + (choice >> 1) % 64 : 1 + (choice >> 1) % 2046;
+    return (word & 0x800FFFFFFFFFFFFF) | exponent << 52;
+}
+
+void draw(int group) {
+    static const uint64_t fixed[2] = {0x40091EB851EB851F, 0xC005BE76C8B43958}; /* 3.14, -2.718 */
+    size_t words = answer.tape ? answer.tape : TAPE;                           /* once it is known, what the call takes */
+    for (size_t k = 0; k < words; k++) tape[k] = random_word();
+    for (int k = 0; k < 2; k++) {
+        uint64_t masks[7];
+        operand[k] = group ? random_number() : fixed[k];
+        for (size_t i = 0; i + 1 < shares; i++) masks[i] = random_word();
+        if (lubewon_split(operand[k], masks, shares - 1, drawn[k], shares).number != LUBEWON_DONE) fail("split is turned down", 0);
+    }
+}
+
+void reset(void) {
+    memcpy(x, drawn[0], sizeof x), memcpy(y, drawn[1], sizeof y);
+    memset(result, 0, sizeof result), memset(work, 0, sizeof work);
+    memset(&lent_stack, 0, (size_t)(&lent_stack_top - &lent_stack));
+}
+
+bool right(const call_row *call) {
+    if (answer.number != LUBEWON_DONE) return false;
+    return !call->plain || lubewon_join(call->result, shares).word == call->plain(operand[0], operand[1]);
+}
