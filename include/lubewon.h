@@ -1,8 +1,8 @@
 /* Lubewon: masked FALCON arithmetic, proved. The C declarations of crate `lubewon`; nothing but the C test holds them to it.
  *
  * NUMBERS AND SHARES. A number is 64 bits, IEEE 754 binary64's sign, exponent E and fraction F; see lubewon_product for how it is read. It is
- * split into n shares, 2 to 8 words whose exclusive-or is the number; which word is share i is its place in the slice. Calls on shares never
- * put them together.
+ * split into n shares, 2 to 8 words whose exclusive-or is the number, all but one of them random; which word is share i is its place in the
+ * slice. Shares come from lubewon_split or from a call on shares; lubewon_join alone puts them together.
  *
  * ANSWERS. Every call answers every input. `number` is 0 for done, else the number of the turn-down, the first of these that applies:
  *
@@ -18,14 +18,17 @@
  *
  * SLICES. A slice is a pointer and its length in elements. The pointer has its type's usual alignment and must not be NULL, not even where the
  * length is 0. A slice that is written must not overlap any other slice of the call: a result that is also an operand, or a work slice
- * that holds a share, is undefined, and nothing turns it down. A result that shall replace an operand has calls of its own,
+ * that overlaps one, is undefined, and nothing turns it down. A result that shall replace an operand has calls of its own,
  * lubewon_product_in_place and those beside it. Slices that are only read may overlap.
  *
  * TAPE. The caller lends random words, used in order from the start (share runs: from tape_place on). They must be uniform, fresh for every
  * call, and never used twice, not by two calls and not by split and a call: two masks that are equal give the secret away. The answer's
- * `tape` says how many were used.
+ * `tape` says how many were used: the next call begins behind them. What is proved of secrecy is proved of each call by itself.
  *
- * Calls keep no state and allocate nothing: they may run at once in several threads on slices of their own.
+ * Calls keep no state and allocate nothing: they may run at once in several threads on slices of their own. They wipe neither stack (some
+ * 4 KB) nor registers. No branch and no address depends on shares, cells, tape words or the operands of the plain operations: that is tested on
+ * the x86-64 code of this build (tests/constant_time), not proved. For what a register's change may tell on 2 shares see docs/LEAKAGE.md: prefer
+ * 3 or more.
  *
  * STEP WORDS. Bits 31..28 kind, bit 27 zero, bits 26..18 d, 17..9 a, 8..0 b. Each sets cell d:
  *
@@ -48,8 +51,8 @@
 extern "C" {
 #endif
 
-#define LUBEWON_VERSION "0.8"
-#define LUBEWON_VERSION_NUMBER 8
+#define LUBEWON_VERSION "0.9"
+#define LUBEWON_VERSION_NUMBER 9
 
 /* Turn-downs. */
 enum {
@@ -117,7 +120,7 @@ lubewon_answer lubewon_one_share_step(uint32_t word, const uint64_t *tape, size_
                                       size_t cells_len);
 
 /* Product, sum and floor on n shares, n the first operand's length: y and result have n words, work 512. What work holds at the start does
- * not matter; it is zeros afterwards. Turn-downs 1, 4, 6. tape counts the tape words used, as the macros above have them. The results
+ * not matter; it is zeros when the call is done. Turn-downs 1, 4, 6. tape counts the tape words used, as the macros above have them. The results
  * join to what the plain operations below give for the joined operands. */
 lubewon_answer lubewon_product_shares(const uint64_t *x, size_t x_len, const uint64_t *y, size_t y_len, uint64_t *result,
                                       size_t result_len, uint64_t *work, size_t work_len, const uint64_t *tape, size_t tape_len);
@@ -126,10 +129,18 @@ lubewon_answer lubewon_sum_shares(const uint64_t *x, size_t x_len, const uint64_
 lubewon_answer lubewon_floor_shares(const uint64_t *x, size_t x_len, uint64_t *result, size_t result_len, uint64_t *work, size_t work_len,
                                     const uint64_t *tape, size_t tape_len);
 
-/* The same with the result in x, in place of the first operand: an accumulator needs no second array. n is x's length: y has n words, work
- * 512. Turn-downs 1, 4, 6 and the count are as above; x and work are unchanged when the call is turned down. x is written, so y must not be
- * x, nor overlap it: a square in place needs a copy of x as y. The shares left in x are just those that the calls above give over the same
- * tape. */
+/* Product, sum and floor on n shares with the result in x, in place of the first operand: an accumulator needs no second array. n is x's length;
+ * y has n words, work 512. Turn-downs 1; 4 where y or work (floor: work) has the wrong length; 6: x and work are then unchanged. Done: x has the
+ * result's shares, just those that the calls above would give for this tape; work is zeros; tape counts the tape words used. y and tape are
+ * only read. x is written, so y, work and tape must not overlap it: a square needs a copy of x as y; to replace the second operand exchange the
+ * two. A call that is cut short leaves shares in work, and x in no state that is promised: wipe both. A sum of all terms on 3 shares, over a
+ * tape of terms * LUBEWON_SUM_TAPE(3) words:
+ *
+ *   for (size_t i = 0, at = 0; i < terms; i++) {
+ *       lubewon_answer a = lubewon_sum_in_place(sum, 3, term[i], 3, work, LUBEWON_WORK, tape + at, tape_len - at);
+ *       if (a.number != LUBEWON_DONE) return a.number;
+ *       at += a.tape;
+ *   } */
 lubewon_answer lubewon_product_in_place(uint64_t *x, size_t x_len, const uint64_t *y, size_t y_len, uint64_t *work, size_t work_len,
                                         const uint64_t *tape, size_t tape_len);
 lubewon_answer lubewon_sum_in_place(uint64_t *x, size_t x_len, const uint64_t *y, size_t y_len, uint64_t *work, size_t work_len,

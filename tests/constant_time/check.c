@@ -75,11 +75,13 @@ static void split_and_join(size_t n) {
 }
 
 /* Every bit of an operand is undefined, so that one call stands for all operands: a path that a branch on one would choose is reported at it. */
-static void plain_operations(void) {
+static void plain_calls(void) {
     uint64_t a = 1, b = 2;
     VALGRIND_MAKE_MEM_UNDEFINED(&a, sizeof a);
     VALGRIND_MAKE_MEM_UNDEFINED(&b, sizeof b);
     x[0] = lubewon_product(a, b), x[1] = lubewon_sum(a, b), x[2] = lubewon_floor(a);
+    all_secret();
+    done("plain run", 1, lubewon_plain_run(plan, PLAN, cells, LUBEWON_REGISTERS));
 }
 
 int main(int argc, char **argv) {
@@ -90,7 +92,7 @@ int main(int argc, char **argv) {
         share_runs(n);
         split_and_join(n);
     }
-    plain_operations();
+    plain_calls();
     all_secret();
     if (argc > 1) { /* sabotage, which must be found: a branch on a share, and an address by one */
         if (x[0] & 1) puts("");

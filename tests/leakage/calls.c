@@ -58,6 +58,7 @@ static const call_row rows[] = {
     {"exchange", sabotage_exchange, NULL, result},
     {"branch", sabotage_branch, NULL, result},
     {"jump", sabotage_jump, NULL, result},
+    {"wide", sabotage_wide, NULL, result},
     {"unknown", sabotage_unknown, NULL, result},
     {"outside", sabotage_outside, NULL, result},
 };
@@ -82,10 +83,10 @@ uint64_t random_word(void) {
     return pool[at++];
 }
 
-/* A normal number: every second one with an exponent near 0, where operands meet, the others with any. */
+/* Every second number with an exponent near 0, where operands meet, others with any, and one in eight with E = 0 or E = 2047. */
 static uint64_t random_number(void) {
-    uint64_t word = random_word(), choice = random_word();
-    uint64_t exponent = choice & 1 ? 991 + (choice >> 1) % 64 : 1 + (choice >> 1) % 2046;
+    uint64_t word = random_word(), choice = random_word(), any = choice >> 8;
+    uint64_t exponent = choice & 1 ? 991 + any % 64 : choice & 6 ? any % 2048 : choice & 8 ? 0 : 2047;
     return (word & 0x800FFFFFFFFFFFFF) | exponent << 52;
 }
 

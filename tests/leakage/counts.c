@@ -119,6 +119,15 @@ static double t_of_word(uint32_t i) {
     return worst;
 }
 
+bool two_at_once(size_t s) {
+    for (size_t k = path[s].slot; k + 1 < path[s + 1].slot; k++) {
+        const slot *low = &slots[k], *high = low + 1;
+        bool halves = high->kind == 'h' || (low->kind == 'm' && high->kind == 'm' && high->at == low->at + 8);
+        if (halves && live[WORDS][k] && live[WORDS][k + 1]) return true;
+    }
+    return false;
+}
+
 double t_of_step(size_t s, int kind) {
     double worst = 0;
     for (size_t k = path[s].slot; k < path[s + 1].slot; k++)

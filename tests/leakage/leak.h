@@ -58,6 +58,7 @@ void count(int group);   /* a run more; group 0 fixed, 1 random */
 bool end_counts(void);   /* false if a slot that leads the way differed from the first run's */
 double threshold(void);
 double t_of_step(size_t s, int kind); /* the largest |t| of its slots' bits and weights */
+bool two_at_once(size_t s);           /* whether it writes 16 bytes of which both halves vary: two shares could stand side by side */
 
 /* ---- Calls ---- */
 typedef struct {
@@ -75,6 +76,7 @@ void draw(int group);             /* operands, shares and tape of a run */
 void reset(void);                 /* shares as drawn; result, work and stack zeros */
 bool right(const call_row *call); /* done, and the result joins to what it must */
 void sabotage_joins(void), sabotage_and(void), sabotage_register(void), sabotage_vector(void), sabotage_memory(void), sabotage_push(void),
-    sabotage_string(void), sabotage_exchange(void), sabotage_branch(void), sabotage_jump(void), sabotage_unknown(void), sabotage_outside(void);
+    sabotage_string(void), sabotage_exchange(void), sabotage_branch(void), sabotage_jump(void), sabotage_unknown(void), sabotage_outside(void),
+    sabotage_wide(void);
 void control(void);
 #endif

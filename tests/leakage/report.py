@@ -18,7 +18,7 @@ class Run:
             rows = [line.split() for line in file]
         if len(head) != 5 or len(rows) != int(head[2]):
             sys.exit(f"report: {name} is not whole")
-        self.operation, self.shares, self.runs, self.threshold = head[0], int(head[1]), int(head[3]), float(head[4])
+        self.operation, self.shares, self.runs, self.threshold = head[0].replace("_", " "), int(head[1]), int(head[3]), float(head[4])
         self.address = [int(row[0], 16) for row in rows]
         self.t = {kind: [float(row[1 + k]) for row in rows] for k, kind in enumerate(KINDS)}
 

@@ -58,6 +58,11 @@ SABOTAGE void sabotage_jump(void) {
     __asm__ volatile("mov x, %%rax\n\tand $1, %%eax\n\tlea 1f(%%rax), %%rax\n\tjmp *%%rax\n1:\tnop\n\tnop" ::: "rax", "cc", "memory");
 }
 
+/* Both shares of a word go into one vector register: each half is sound, and the register is the secret. */
+SABOTAGE void sabotage_wide(void) {
+    __asm__ volatile("movups x, %%xmm1" ::: "xmm1", "memory");
+}
+
 /* An instruction that the table does not know. */
 SABOTAGE void sabotage_unknown(void) {
     __asm__ volatile("rdtsc" ::: "rax", "rdx");

@@ -1,10 +1,10 @@
 -- The plain operations' results as the code selects them, without a branch, against the definitions' cases.
 -- Rests on Encode, ProductModel, SumCases and FloorModel, which have the cases.
 use mathlib.Core.Path.{_≡_, refl, sym, ap, ap₂, _∙_}
-use mathlib.Core.Bool.{Bool, not, cond}
+use mathlib.Core.Bool.{Bool, true, false, not, cond}
 use mathlib.Core.Logic.{inl, inr}
 use Prim.Native.Nat.{ℕ, zero, suc, _+_, _-_, _*_, _/_, _%_, _^_, _≤_, _<_}
-use native.Mathlib.Nat.{mod-eq-of-lt, div-add-mod'}
+use native.Mathlib.Nat.{mod-eq-of-lt, div-add-mod', mul-pos, le-of-eq, eq-zero-or-pos}
 use native.Mathlib.Omega.{arith}
 use lib.Bits.{bitAnd, bitOr, and-mask, or-shifted, or-zero-r}
 use lib.Count.{leadingZeros, leading-top}
@@ -76,9 +76,9 @@ product-selected a b w hw h Z hZ =
     M = magBits 1126 (magnitude a * magnitude b)
 
     nonzero : Z ≡ 0 → ⊥
-    nonzero e = let p = jam-pos 51 ((2 ^ 52 + frac a) * (2 ^ 52 + frac b)) (native.Mathlib.Nat.mul-pos (omega arith) (omega arith)) in omega arith
+    nonzero e = let p = jam-pos 51 ((2 ^ 52 + frac a) * (2 ^ 52 + frac b)) (mul-pos (omega arith) (omega arith)) in omega arith
 
--- ---- the sum of operands in order: W and U are the aligned significands, zero for a zero, Z their sum or difference
+-- ---- the sum of operands in order: `larger` and `smaller` are the aligned significands, zero for a zero, Z their sum or difference
 module _ (a b : ℕ) (le : b % 2 ^ 63 ≤ a % 2 ^ 63) where
   abbrev pub larger : ℕ
   larger = cond (not (eqb (expo a) 0)) ((2 ^ 52 + frac a) * 2 ^ 10) 0
@@ -93,7 +93,7 @@ module _ (a b : ℕ) (le : b % 2 ^ 63 ≤ a % 2 ^ 63) where
   pub in-order : (smaller ≤ larger) × (larger < 2 ^ 63)
   in-order =
       by-eq (λ (t : Bool). (smaller ≤ cond (not t) ((2 ^ 52 + frac a) * 2 ^ 10) 0) × (cond (not t) ((2 ^ 52 + frac a) * 2 ^ 10) 0 < 2 ^ 63)) (expo a) 0
-      (λ e. (native.Mathlib.Nat.le-of-eq (no-smaller e), pow-pos 63)) (λ n. (differ a b le n .fits, omega arith))
+      (λ e. (le-of-eq (no-smaller e), pow-pos 63)) (λ n. (differ a b le n .fits, omega arith))
 
   -- the sign and the bits of what is left, like or unlike
   abbrev put : ℕ → Bool → ℕ
@@ -109,20 +109,20 @@ module _ (a b : ℕ) (le : b % 2 ^ 63 ≤ a % 2 ^ 63) where
       ∙ or-shifted (sign a) 63 (encoded Z (expo a)) (encoded-lt (leadingZeros 64 Z) Z (expo a))
     where
       either : (like : Bool) → cond like (sign a * 2 ^ 63) (sign a * 2 ^ 63) ≡ sign a * 2 ^ 63
-      either mathlib.Core.Bool.true = refl
-      either mathlib.Core.Bool.false = refl
+      either true = refl
+      either false = refl
 
   pub sum-selected : put (cond (eqb (sign a) (sign b)) (larger + smaller) (larger - smaller)) (eqb (sign a) (sign b)) ≡ sum a b
   sum-selected =
       by-eq (λ (t : Bool). put (cond t (larger + smaller) (larger - smaller)) t ≡ sum a b) (sign a) (sign b)
-      (λ like. by-eq (λ (t : Bool). put (cond (not t) ((2 ^ 52 + frac a) * 2 ^ 10) 0 + smaller) mathlib.Core.Bool.true ≡ sum a b) (expo a) 0
-      (λ e. put-none (0 + smaller) mathlib.Core.Bool.true (omega (arith, no-smaller e)) ∙ sym (zeros-like a b le e like))
-      (λ n. put-some ((2 ^ 52 + frac a) * 2 ^ 10 + smaller) mathlib.Core.Bool.true (λ z. omega arith) ∙ sym (like-signs a b le n like)))
-      (λ unlike. by-eq (λ (t : Bool). put (cond (not t) ((2 ^ 52 + frac a) * 2 ^ 10) 0 - smaller) mathlib.Core.Bool.false ≡ sum a b) (expo a) 0
-      (λ e. put-none (0 - smaller) mathlib.Core.Bool.false (omega arith) ∙ sym (zeros-unlike a b le e unlike))
-      (λ n. elim (native.Mathlib.Nat.eq-zero-or-pos ((2 ^ 52 + frac a) * 2 ^ 10 - smaller)) [
-        | inl z ↦ put-none ((2 ^ 52 + frac a) * 2 ^ 10 - smaller) mathlib.Core.Bool.false z ∙ sym (cancelled a b le n unlike z)
-        | inr p ↦ put-some ((2 ^ 52 + frac a) * 2 ^ 10 - smaller) mathlib.Core.Bool.false (λ z. omega arith) ∙ sym (unlike-signs a b le n unlike p)
+      (λ like. by-eq (λ (t : Bool). put (cond (not t) ((2 ^ 52 + frac a) * 2 ^ 10) 0 + smaller) true ≡ sum a b) (expo a) 0
+      (λ e. put-none (0 + smaller) true (omega (arith, no-smaller e)) ∙ sym (zeros-like a b le e like))
+      (λ n. put-some ((2 ^ 52 + frac a) * 2 ^ 10 + smaller) true (λ z. omega arith) ∙ sym (like-signs a b le n like)))
+      (λ unlike. by-eq (λ (t : Bool). put (cond (not t) ((2 ^ 52 + frac a) * 2 ^ 10) 0 - smaller) false ≡ sum a b) (expo a) 0
+      (λ e. put-none (0 - smaller) false (omega arith) ∙ sym (zeros-unlike a b le e unlike))
+      (λ n. elim (eq-zero-or-pos ((2 ^ 52 + frac a) * 2 ^ 10 - smaller)) [
+        | inl z ↦ put-none ((2 ^ 52 + frac a) * 2 ^ 10 - smaller) false z ∙ sym (cancelled a b le n unlike z)
+        | inr p ↦ put-some ((2 ^ 52 + frac a) * 2 ^ 10 - smaller) false (λ z. omega arith) ∙ sym (unlike-signs a b le n unlike p)
       ]))
 
   -- over the code's own words: x and y the aligned significands, s and t the signs in place

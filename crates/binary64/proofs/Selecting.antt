@@ -1,7 +1,7 @@
 -- Selection by masks, in numbers: 64 copies of a Bool as a mask, and a choice by exclusive-or. Rests on lib.Bits and on bits' laws of XOR.
 use mathlib.Core.Path.{_≡_, refl, ap, _∙_}
 use mathlib.Core.Bool.{Bool, true, false, not, cond}
-use Prim.Native.Nat.{ℕ, _+_, _-_, _*_, _%_, _^_, _<_, min}
+use Prim.Native.Nat.{ℕ, zero, suc, _+_, _-_, _*_, _%_, _^_, _<_, min}
 use native.Mathlib.Nat.{mod-eq-of-lt}
 use native.Mathlib.Omega.{arith}
 use mir.Val.{boolByte}
@@ -30,8 +30,8 @@ pub some : (x : ℕ) → boolByte (not (eqb x 0)) ≡ min x 1
 some x = by-eq (λ (b : Bool). boolByte (not b) ≡ min x 1) x 0 (λ e. omega arith) (λ n. positive x n)
   where
     positive : (x : ℕ) → (x ≡ 0 → ⊥) → 1 ≡ min x 1
-    positive Prim.Native.Nat.zero n = absurd (n refl)
-    positive (Prim.Native.Nat.suc x) n = omega arith
+    positive zero n = absurd (n refl)
+    positive (suc x) n = omega arith
 
 -- a test of the sign bit, left in place
 pub by-sign : (s x f : ℕ) → x ≡ s * 2 ^ 63 → cond (not (eqb x 0)) f 0 ≡ cond (eqb s 0) 0 f

@@ -1,4 +1,5 @@
-// Product, sum and floor on shares: one operation over the words of each plan. `specs/` has the definitions that the contracts cite.
+// Product, sum and floor on shares: one operation over the words of each plan. The contracts cite the definitions of `execution`, and what holds
+// of them in `specs/`.
 ghost use mathlib.Core.Path.{_≡_};
 ghost use Rattle.plans.specs.ProductPlan.{productPlan};
 ghost use Rattle.plans.specs.SumPlan.{sumPlan};

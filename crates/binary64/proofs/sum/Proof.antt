@@ -5,6 +5,7 @@ use Prim.Native.Nat.{ℕ, _-_, _%_, _^_, _≤_}
 use native.Mathlib.Omega.{arith}
 use borrow.Author.Needs.{needs}
 use lib.Bits.{bitAnd, and-mask}
+use lib.Dec.{ltb}
 use Rattle.binary64.specs.Sum as Spec
 use Rattle.binary64.proofs.Cases.{by-lt}
 use Rattle.binary64.proofs.SumCases.{sum-comm}
@@ -12,7 +13,7 @@ use Rattle.binary64.proofs.sum.Statement.{statement}
 use Rattle.binary64.proofs.sum.Tie as tie
 
 -- the larger first
-falling : (a b : ℕ) → cond (lib.Dec.ltb (bitAnd a (2 ^ 63 - 1)) (bitAnd b (2 ^ 63 - 1))) a b % 2 ^ 63 ≤ cond (lib.Dec.ltb (bitAnd a (2 ^ 63 - 1)) (bitAnd b (2 ^ 63 - 1))) b a % 2 ^ 63
+falling : (a b : ℕ) → cond (ltb (bitAnd a (2 ^ 63 - 1)) (bitAnd b (2 ^ 63 - 1))) a b % 2 ^ 63 ≤ cond (ltb (bitAnd a (2 ^ 63 - 1)) (bitAnd b (2 ^ 63 - 1))) b a % 2 ^ 63
 falling a b =
     by-lt (λ (t : Bool). cond t a b % 2 ^ 63 ≤ cond t b a % 2 ^ 63) (bitAnd a (2 ^ 63 - 1)) (bitAnd b (2 ^ 63 - 1))
     (λ l. omega (arith, and-mask a 63, and-mask b 63)) (λ l. omega (arith, and-mask a 63, and-mask b 63))
