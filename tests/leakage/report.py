@@ -120,7 +120,7 @@ def plot(runs):
     width, height_all = LEFT + len(shares) * (WIDE + GAP_X), TOP + len(operations) * (HIGH + GAP_Y)
     panels = (panel(run, shares.index(run.shares), operations.index(run.operation)) for run in runs)
     return (f'<svg xmlns="http://www.w3.org/2000/svg" viewBox="0 0 {width} {height_all}" width="{width}" height="{height_all}" '
-            f'font-family="sans-serif" font-size="11"><rect width="100%" height="100%" fill="#fff"/>{legend(runs, width)}{"".join(panels)}</svg>\n')
+            f'font-family="sans-serif" font-size="11"><rect width="100%" height="100%" fill="#fff"/>{legend(runs, width)}\n' + "\n".join(panels) + "\n</svg>\n")
 
 
 def put(text, marker, part):
