@@ -23,7 +23,8 @@
  *
  * TAPE. The caller lends random words, used in order from the start (share runs: from tape_place on). They must be uniform, fresh for every
  * call, and never used twice, not by two calls and not by split and a call: two masks that are equal give the secret away. The answer's
- * `tape` says how many were used: the next call begins behind them. What is proved of secrecy is proved of each call by itself.
+ * `tape` says how many an operation or a share run used: the next call begins behind them. Split counts nothing in its answer and uses
+ * LUBEWON_SPLIT_TAPE(n) words: step over them. What is proved of secrecy is proved of each call by itself.
  *
  * Calls keep no state and allocate nothing: they may run at once in several threads on slices of their own. They wipe neither stack (some
  * 4 KB) nor registers. No branch and no address depends on shares, cells, tape words or the operands of the plain operations: that is tested on
@@ -51,6 +52,7 @@
 extern "C" {
 #endif
 
+/* The number grows by one with every change of the calls. */
 #define LUBEWON_VERSION "0.9"
 #define LUBEWON_VERSION_NUMBER 9
 
@@ -130,11 +132,11 @@ lubewon_answer lubewon_floor_shares(const uint64_t *x, size_t x_len, uint64_t *r
                                     const uint64_t *tape, size_t tape_len);
 
 /* Product, sum and floor on n shares with the result in x, in place of the first operand: an accumulator needs no second array. n is x's length;
- * y has n words, work 512. Turn-downs 1; 4 where y or work (floor: work) has the wrong length; 6: x and work are then unchanged. Done: x has the
- * result's shares, just those that the calls above would give for this tape; work is zeros; tape counts the tape words used. y and tape are
+ * y has n words, work 512. Turn-downs 1; 4 where y or work (floor: work) has the wrong length; 6. Turned down, x and work are unchanged. Done, x has
+ * the result's shares, just those that the calls above would give for this tape; work is zeros; tape counts the tape words used. y and tape are
  * only read. x is written, so y, work and tape must not overlap it: a square needs a copy of x as y; to replace the second operand exchange the
- * two. A call that is cut short leaves shares in work, and x in no state that is promised: wipe both. A sum of all terms on 3 shares, over a
- * tape of terms * LUBEWON_SUM_TAPE(3) words:
+ * two. A call that is interrupted and never resumed leaves shares in work, and x in no state that is promised: wipe both. All terms added to sum, which
+ * holds three shares of 0 or of the first summand, over a tape of terms * LUBEWON_SUM_TAPE(3) words:
  *
  *   for (size_t i = 0, at = 0; i < terms; i++) {
  *       lubewon_answer a = lubewon_sum_in_place(sum, 3, term[i], 3, work, LUBEWON_WORK, tape + at, tape_len - at);
@@ -165,7 +167,7 @@ lubewon_answer lubewon_copy_sum_plan(uint32_t *out, size_t out_len);
 lubewon_answer lubewon_copy_floor_plan(uint32_t *out, size_t out_len);
 
 /* A word split into out_len shares: shares 1 and up are the tape's words in order, share 0 the rest. Turn-downs 1, and 6 below out_len - 1 tape
- * words. No counts. */
+ * words, which is how many it uses. No counts: the answer's tape is 0 all the same. */
 lubewon_answer lubewon_split(uint64_t word, const uint64_t *tape, size_t tape_len, uint64_t *out, size_t out_len);
 
 /* The word that shares join to, 0 when turned down. Turn-down 1. No counts. */

@@ -8,6 +8,8 @@ size_t shares;
 uint64_t x[8], y[8], result[8], work[LUBEWON_WORK], tape[TAPE];
 lubewon_answer answer;
 static uint64_t operand[2], drawn[2][8];
+static uint32_t program[PROGRAM];
+static size_t program_words;
 
 /* ---- One function a call ---- */
 static void product(void) {
@@ -34,33 +36,39 @@ static void floor_in_place(void) {
     answer = lubewon_floor_in_place(x, shares, work, LUBEWON_WORK, tape, TAPE);
 }
 
+/* Floor's share program, whole, on the work slice as cells. */
+static void share_run(void) {
+    answer = lubewon_share_run(program, program_words, 0, tape, TAPE, 0, program_words, work, LUBEWON_CELLS);
+}
+
 static uint64_t plain_floor(uint64_t a, uint64_t b) {
     (void)b;
     return lubewon_floor(a);
 }
 
-/* ---- The one table: name, call, what its result joins to, where the result is ---- */
+/* ---- The one table: name, call, what its result joins to, where the result is, and whether it runs on cells ---- */
 static const call_row rows[] = {
-    {"product", product, lubewon_product, result},
-    {"sum", sum, lubewon_sum, result},
-    {"floor", floored, plain_floor, result},
-    {"product_in_place", product_in_place, lubewon_product, x},
-    {"sum_in_place", sum_in_place, lubewon_sum, x},
-    {"floor_in_place", floor_in_place, plain_floor, x},
-    {"control", control, NULL, result},
-    {"joins", sabotage_joins, plain_floor, result},
-    {"and", sabotage_and, NULL, result},
-    {"register", sabotage_register, NULL, result},
-    {"memory", sabotage_memory, NULL, result},
-    {"push", sabotage_push, NULL, result},
-    {"vector", sabotage_vector, NULL, result},
-    {"string", sabotage_string, NULL, result},
-    {"exchange", sabotage_exchange, NULL, result},
-    {"branch", sabotage_branch, NULL, result},
-    {"jump", sabotage_jump, NULL, result},
-    {"wide", sabotage_wide, NULL, result},
-    {"unknown", sabotage_unknown, NULL, result},
-    {"outside", sabotage_outside, NULL, result},
+    {"product", product, lubewon_product, result, 1, false},
+    {"sum", sum, lubewon_sum, result, 1, false},
+    {"floor", floored, plain_floor, result, 1, false},
+    {"product_in_place", product_in_place, lubewon_product, x, 1, false},
+    {"sum_in_place", sum_in_place, lubewon_sum, x, 1, false},
+    {"floor_in_place", floor_in_place, plain_floor, x, 1, false},
+    {"share_run", share_run, plain_floor, work + 2, LUBEWON_REGISTERS, true},
+    {"control", control, NULL, result, 1, false},
+    {"joins", sabotage_joins, plain_floor, result, 1, false},
+    {"and", sabotage_and, NULL, result, 1, false},
+    {"register", sabotage_register, NULL, result, 1, false},
+    {"memory", sabotage_memory, NULL, result, 1, false},
+    {"push", sabotage_push, NULL, result, 1, false},
+    {"vector", sabotage_vector, NULL, result, 1, false},
+    {"string", sabotage_string, NULL, result, 1, false},
+    {"exchange", sabotage_exchange, NULL, result, 1, false},
+    {"branch", sabotage_branch, NULL, result, 1, false},
+    {"jump", sabotage_jump, NULL, result, 1, false},
+    {"wide", sabotage_wide, NULL, result, 1, false},
+    {"unknown", sabotage_unknown, NULL, result, 1, false},
+    {"outside", sabotage_outside, NULL, result, 1, false},
 };
 
 const call_row *call_named(const char *name) {
@@ -102,13 +110,22 @@ void draw(int group) {
     }
 }
 
-void reset(void) {
+void prepare(void) {
+    uint32_t plan[LUBEWON_FLOOR_PLAN];
+    program_words = lubewon_translate(shares, plan, lubewon_copy_floor_plan(plan, LUBEWON_FLOOR_PLAN).words, program, PROGRAM).words;
+    if (program_words == 0) fail("translate is turned down", 0);
+}
+
+void reset(const call_row *call) {
     memcpy(x, drawn[0], sizeof x), memcpy(y, drawn[1], sizeof y);
     memset(result, 0, sizeof result), memset(work, 0, sizeof work);
     memset(&lent_stack, 0, (size_t)(&lent_stack_top - &lent_stack));
+    for (size_t i = 0; call->on_cells && i < shares; i++) work[LUBEWON_CELL(i, 0)] = x[i], work[LUBEWON_CELL(i, 1)] = y[i];
 }
 
 bool right(const call_row *call) {
+    uint64_t got[8];
+    for (size_t i = 0; i < shares; i++) got[i] = call->result[i * call->stride];
     if (answer.number != LUBEWON_DONE) return false;
-    return !call->plain || lubewon_join(call->result, shares).word == call->plain(operand[0], operand[1]);
+    return !call->plain || lubewon_join(got, shares).word == call->plain(operand[0], operand[1]);
 }

@@ -31,10 +31,10 @@ static bool differ(const uint64_t *a, const uint64_t *b) {
 static void check(const call_row *call, int group) {
     static uint64_t stepped_before[SLOTS], stepped_after[SLOTS];
     draw(group);
-    reset(), step_again(call->call);
+    reset(call), step_again(call->call);
     if (!right(call)) fail("the call's result is wrong", 0);
     memcpy(stepped_before, before, slots_used * 8), memcpy(stepped_after, after, slots_used * 8);
-    reset();
+    reset(call);
     if (!replay()) fail("the path is not the same in all runs", 0);
     if (!right(call) || differ(before, stepped_before) || differ(after, stepped_after)) fail("single steps and replay differ", 0);
 }
@@ -42,7 +42,7 @@ static void check(const call_row *call, int group) {
 /* The path of one run, checked by a few more. */
 static void find_path(const call_row *call) {
     double start = seconds();
-    draw(0), reset(), record(call->call);
+    draw(0), reset(call), record(call->call);
     stepped = (double)steps / (seconds() - start);
     write_replay();
     for (int k = 0; k < CHECKS; k++) check(call, k % 2);
@@ -53,7 +53,7 @@ static void run_all(const call_row *call, long runs) {
     start_counts();
     for (long k = 0; k < runs; k++) {
         int group = random_word() & 1;
-        draw(group), reset();
+        draw(group), reset(call);
         if (!replay()) fail("the path is not the same in all runs", 0);
         if (!right(call)) fail("the call's result is wrong", 0);
         count(group);
@@ -98,6 +98,7 @@ int main(int argc, char **argv) {
     FILE *file = argc == 6 ? fopen(argv[5], "w") : NULL;
     if (argc == 6 && !file) fail("the file cannot be written", 0);
     read_table(argv[1]);
+    prepare();
     find_path(call);
     run_all(call, runs);
     int status = report(call, runs, file);

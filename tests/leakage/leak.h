@@ -7,7 +7,7 @@
 #include <stdint.h>
 #include <stdnoreturn.h>
 
-enum { STEPS = 400000, SLOTS = 800000, TAPE = 6000 };
+enum { STEPS = 400000, SLOTS = 800000, TAPE = 6000, PROGRAM = 8192 };
 
 /* Says why on standard error and ends with status 1. */
 noreturn void fail(const char *why, uint64_t at);
@@ -65,15 +65,18 @@ typedef struct {
     const char *name;
     watched call;
     uint64_t (*plain)(uint64_t x, uint64_t y); /* what the result joins to, or NULL */
-    uint64_t *result;
+    uint64_t *result;                          /* its share 0; */
+    size_t stride;                             /* the next share is so many words on */
+    bool on_cells;                             /* work has the operands in registers 0 and 1 beforehand */
 } call_row;
 extern size_t shares;
 extern uint64_t x[8], y[8], result[8], work[LUBEWON_WORK], tape[TAPE];
 extern lubewon_answer answer;
 const call_row *call_named(const char *name);
+void prepare(void); /* what a call needs once the number of shares is known */
 uint64_t random_word(void);
 void draw(int group);             /* operands, shares and tape of a run */
-void reset(void);                 /* shares as drawn; result, work and stack zeros */
+void reset(const call_row *call); /* shares as drawn; result, work and stack zeros */
 bool right(const call_row *call); /* done, and the result joins to what it must */
 void sabotage_joins(void), sabotage_and(void), sabotage_register(void), sabotage_vector(void), sabotage_memory(void), sabotage_push(void),
     sabotage_string(void), sabotage_exchange(void), sabotage_branch(void), sabotage_jump(void), sabotage_unknown(void), sabotage_outside(void),

@@ -1,5 +1,5 @@
--- Each claim once more, at its arguments and with every condition written out: a statement that is narrowed, or that asks for more, fails here.
--- Parts does this for the records inside the statements.
+-- Most claims once more, at their arguments and with every condition written out: one that is narrowed, or that asks for more, fails here. Left
+-- out are the plain machine's laws, the corners, the examples and the turn-downs. Parts does this for the records inside the statements.
 use mathlib.Core.Path.{_≡_, refl}
 use mathlib.Core.Logic.{_⊎_}
 use mathlib.Core.List.{List}

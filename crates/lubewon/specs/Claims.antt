@@ -1,5 +1,5 @@
 -- Every top statement of the library, in one record: the root of what is claimed. `claims`, in proofs/, proves it, so that a statement that is
--- lost fails the gate; proofs/Statements and proofs/Parts do so for one that is narrowed or halved. docs/CLAIMS.md maps the sentences of document
+-- lost fails the gate; proofs/Statements and proofs/Parts do so for most that are narrowed or halved. docs/CLAIMS.md maps the sentences of document
 -- 01 to these fields.
 use Rattle.bits.specs.Adder.{AdderAdds}
 use Rattle.word.specs.Parts.{WordsExact}
