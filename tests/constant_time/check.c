@@ -1,5 +1,6 @@
 /* Constant time, for valgrind's memcheck: shares, cells and tape words, and the operands of the plain operations, are marked undefined, so that
- * memcheck reports every branch and every address that depends on one. A call's answer must not depend on them either: it is tested here. */
+ * memcheck reports every branch and every address that depends on one. The `number` of an answer is tested here, which
+ * memcheck would report too if it depended on one. */
 #include <lubewon.h>
 #include <stdio.h>
 #include <stdlib.h>

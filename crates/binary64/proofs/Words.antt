@@ -4,6 +4,7 @@ use mathlib.Core.Logic.{_⊎_, inl, inr}
 use Prim.Native.Nat.{ℕ, suc, _+_, _-_, _*_, _/_, _%_, _^_, _≤_, _<_}
 use native.Mathlib.Nat.{mod-eq-of-lt, lt-of-le-of-lt, div-mul-le-self, div-add-mod'}
 use native.Mathlib.Omega.{arith}
+use lib.Pow.{shl-exact}
 use Rattle.binary64.specs.Number.{sign}
 
 -- `(w >> k) << k`: a word without its low k bits
@@ -18,6 +19,10 @@ low-rest w k h = ap (λ (x : ℕ). w - x) (cleared w k h .0) ∙ rest (w / 2 ^ k
   where
     rest : (x r w : ℕ) → x + r ≡ w → w - x ≡ r
     rest x r w e = omega arith
+
+-- `significand << k`, k up to 11: no bit is lost
+pub significand-shl : (k m F : ℕ) → k ≤ 11 → F < 2 ^ 52 → m ≡ 2 ^ 52 + F → (m * 2 ^ k) % 2 ^ 64 ≡ (2 ^ 52 + F) * 2 ^ k
+significand-shl k m F h f e = ap (λ (x : ℕ). (x * 2 ^ k) % 2 ^ 64) e ∙ shl-exact {a = 2 ^ 52 + F} 53 k 64 (omega arith) (omega arith)
 
 -- a word's sign is 0 or 1
 pub sign-cases : (a : ℕ) → a < 2 ^ 64 → (sign a ≡ 0) ⊎ (sign a ≡ 1)

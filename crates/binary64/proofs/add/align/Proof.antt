@@ -8,6 +8,7 @@ use lib.Dec.{eqb}
 use Rattle.binary64.specs.Number.{expo, frac}
 use Rattle.binary64.specs.Steps.{jam, aligned}
 use Rattle.binary64.proofs.Cases.{by-eq}
+use Rattle.binary64.proofs.Words.{significand-shl}
 use Rattle.binary64.proofs.Jam.{jam-zero}
 use Rattle.binary64.proofs.SumCases.{aligned-some, aligned-none}
 use Rattle.binary64.proofs.add.align.Statement.{statement}
@@ -17,14 +18,11 @@ use Rattle.binary64.proofs.add.align.Tie as tie
 abbrev placed : ℕ → ℕ
 placed b = cond (not (eqb (expo b) 0)) ((2 ^ 52 + frac b) * 2 ^ 9) 0
 
-shifted : (m F : ℕ) → F < 2 ^ 52 → m ≡ 2 ^ 52 + F → (m * 2 ^ 9) % 2 ^ 64 ≡ (2 ^ 52 + F) * 2 ^ 9
-shifted m F h e = omega arith
-
 is-placed : (c : tie.After-kept) → c .kept .result ≡ placed (c .before .before .before .args .b)
 is-placed c =
     let b = c .before .before .before .args .b in
     c .kept .ensures
-    ∙ ap₂ (λ (E x : ℕ). cond (not (eqb E 0)) x 0) (c .before .before .exponent .ensures) (shifted (c .before .significand .result) (frac b) (omega arith) (c .before .significand .ensures))
+    ∙ ap₂ (λ (E x : ℕ). cond (not (eqb E 0)) x 0) (c .before .before .exponent .ensures) (significand-shl 9 (c .before .significand .result) (frac b) (omega arith) (omega arith) (c .before .significand .ensures))
 
 shift-jam-requires : tie.Need-shift-jam-requires
 shift-jam-requires c κs =

@@ -7,6 +7,7 @@ use borrow.Author.Needs.{needs}
 use lib.Dec.{eqb}
 use Rattle.binary64.specs.Number.{frac}
 use Rattle.binary64.specs.Steps.{aligned}
+use Rattle.binary64.proofs.Words.{significand-shl}
 use Rattle.binary64.proofs.Selected.{larger, smaller, in-order, ordered-selected}
 use Rattle.binary64.proofs.add.ordered.Statement.{statement}
 use Rattle.binary64.proofs.add.ordered.Tie as tie
@@ -15,14 +16,11 @@ use Rattle.binary64.proofs.add.ordered.Tie as tie
 abbrev start : tie.After-sign-bit2 → tie.Start
 start c = c .before .before .before .before .before .before .before
 
-shifted : (m F : ℕ) → F < 2 ^ 52 → m ≡ 2 ^ 52 + F → (m * 2 ^ 10) % 2 ^ 64 ≡ (2 ^ 52 + F) * 2 ^ 10
-shifted m F h e = omega arith
-
 first : (c : tie.After-sign-bit2) → c .before .before .before .before .kept .result ≡ larger (start c .args .a) (start c .args .b) (start c .pre)
 first c =
     let k = c .before .before .before .before in
     k .kept .ensures
-    ∙ ap₂ (λ (E x : ℕ). cond (not (eqb E 0)) x 0) (k .before .before .exponent .ensures) (shifted (k .before .significand .result) (frac (start c .args .a)) (omega arith) (k .before .significand .ensures))
+    ∙ ap₂ (λ (E x : ℕ). cond (not (eqb E 0)) x 0) (k .before .before .exponent .ensures) (significand-shl 10 (k .before .significand .result) (frac (start c .args .a)) (omega arith) (omega arith) (k .before .significand .ensures))
 
 second : (c : tie.After-sign-bit2) → c .before .before .align .result ≡ smaller (start c .args .a) (start c .args .b) (start c .pre)
 second c =
