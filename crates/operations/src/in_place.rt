@@ -5,10 +5,9 @@ ghost use Rattle.plans.specs.SumPlan.{sumPlan};
 ghost use Rattle.plans.specs.FloorPlan.{floorPlan};
 ghost use Rattle.operations.specs.Masked.{Masked};
 ghost use Rattle.execution.specs.Shares.{callAnswer, resultAfter, workAfter, zerosFor};
-use crate::one_operand::NONE;
-use crate::one_operand::at_most_eight;
 use checks::answer::Answer;
 use execution::in_place::operation_in_place;
+use execution::one_operand::operation_of_one_in_place;
 
 // The product of shared operands x and y: its shares in x. Turned down with 1 where the shares are not 2 to 8, 4 where y or `work` has the wrong
 // length, 6 where the tape is too short; all is then as it was. `work` has 512 words, zeros afterwards. What holds of it is `Masked`.
@@ -41,7 +40,5 @@ pub fn floor(x: &mut [u64], work: &mut [u64], tape: &[u64]) -> Answer
     ensures holds { λ _. ⌜ Masked ⌝ }
 {
     let plan = plans::floor_table::words();
-    let none = NONE;
-    let n = at_most_eight(x.len());
-    operation_in_place(&plan, x, &none[..n], work, tape)
+    operation_of_one_in_place(&plan, x, work, tape)
 }

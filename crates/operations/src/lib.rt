@@ -6,13 +6,11 @@ ghost use Rattle.plans.specs.SumPlan.{sumPlan};
 ghost use Rattle.plans.specs.FloorPlan.{floorPlan};
 ghost use Rattle.operations.specs.Masked.{Masked};
 ghost use Rattle.execution.specs.Shares.{callAnswer, resultAfter, workAfter, zerosFor};
-use crate::one_operand::NONE;
-use crate::one_operand::at_most_eight;
 use checks::answer::Answer;
+use execution::one_operand::operation_of_one;
 use execution::operation::operation;
 
 pub mod in_place;
-mod one_operand;
 
 // The product of shared operands x and y: its shares in `result`. Turned down with 1 where the shares are not 2 to 8, 4 where a slice has the
 // wrong length, 6 where the tape is too short; all is then as it was. `work` has 512 words, zeros afterwards. What holds of it is `Masked`.
@@ -45,7 +43,5 @@ pub fn floor(x: &[u64], result: &mut [u64], work: &mut [u64], tape: &[u64]) -> A
     ensures holds { λ _. ⌜ Masked ⌝ }
 {
     let plan = plans::floor_table::words();
-    let none = NONE;
-    let n = at_most_eight(x.len());
-    operation(&plan, x, &none[..n], result, work, tape)
+    operation_of_one(&plan, x, result, work, tape)
 }

@@ -1,5 +1,5 @@
 -- An operation with one operand: handed as many zeros as the operand has words, but eight at most, a call is the one with zeros for all of
--- them, since more than eight shares are turned down.
+-- them, since more than eight shares are turned down. Rests on word's Small and Acting's `Left`.
 use mathlib.Core.Path.{_≡_, refl, sym, ap, subst, _∙_}
 use mathlib.Core.Bool.{Bool, true, false}
 use mathlib.Core.List.{List}
