@@ -204,6 +204,7 @@ lubewon_answer base_operation(const uint32_t *plan, size_t plan_len, const uint6
 /* ---- (c) Soft floats ---- */
 
 static const uint64_t SIGN = UINT64_C(1) << 63, LEADING = UINT64_C(1) << 52, GREATEST = UINT64_C(2047) << 52;
+static const uint64_t HALF = UINT64_C(1022) << 52, ONE = UINT64_C(1023) << 52;
 
 static unsigned exponent_of(uint64_t x) { return x >> 52 & 2047; }
 static uint64_t significand_of(uint64_t x) { return LEADING | (x & (LEADING - 1)); }
@@ -252,6 +253,23 @@ uint64_t base_floor(uint64_t a) {
     if (exponent < 1023) return a & SIGN ? UINT64_C(0xBFF0000000000000) : 0;
     uint64_t fraction = (UINT64_C(1) << (1075 - exponent)) - 1;
     return (a & SIGN ? a + fraction : a) & ~fraction;
+}
+
+uint64_t base_truncate(uint64_t a) {
+    unsigned exponent = exponent_of(a);
+    if (exponent >= 1075) return a;
+    if (exponent < 1023) return a & SIGN;
+    return a & UINT64_MAX << (1075 - exponent);
+}
+
+/* Below 1 only what is above 0.5 rounds up. From 1 on half a unit is added, less one where the whole part is even, and carries into it.
+ * `unit` is the last bit of the whole part; for E = 1023 that is 1, and the lowest bit of E stands for it. */
+uint64_t base_nearest(uint64_t a) {
+    unsigned exponent = exponent_of(a);
+    if (exponent >= 1075) return a;
+    if (exponent < 1023) return (a & SIGN) | (a << 1 > HALF << 1 ? ONE : 0);
+    uint64_t unit = UINT64_C(1) << (1075 - exponent);
+    return (a + unit / 2 - !(a & unit)) & ~(unit - 1);
 }
 
 /* ---- (d) Translator ---- */

@@ -15,10 +15,12 @@ size_t base_plan_on_shares(size_t n, const uint32_t *plan, size_t plan_len, cons
 lubewon_answer base_operation(const uint32_t *plan, size_t plan_len, const uint64_t *x, size_t n, const uint64_t *y, uint64_t *result,
                               uint64_t *work, const uint64_t *tape, size_t tape_len);
 
-/* (c) Soft-float product, sum and floor by document 01's rules. */
+/* (c) Soft-float operations by the documents' rules. */
 uint64_t base_product(uint64_t a, uint64_t b);
 uint64_t base_sum(uint64_t a, uint64_t b);
 uint64_t base_floor(uint64_t a);
+uint64_t base_truncate(uint64_t a);
+uint64_t base_nearest(uint64_t a);
 
 /* (d) A translator. */
 lubewon_answer base_translate(size_t n, const uint32_t *plan, size_t plan_len, uint32_t *out, size_t out_len);

@@ -31,11 +31,15 @@ static uint64_t random_number(void) {
 
 typedef struct {
     const char *name;
+    lubewon_answer (*copy)(uint32_t *, size_t), (*on_shares)(void);
+    uint64_t (*plain)(uint64_t, uint64_t), (*base)(uint64_t, uint64_t);
+    bool two; /* operands; where there is one, the second is not read */
     uint32_t plan[PLAN];
     size_t plan_len;
 } operation;
 
-static operation product = {"product", {0}, 0}, sum = {"sum", {0}, 0}, floored = {"floor", {0}, 0};
+enum { PRODUCT, SUM, FLOOR, TRUNCATE, NEAREST, OPERATIONS };
+static operation operations[OPERATIONS];
 
 static size_t n; /* shares */
 static uint64_t x[8], y[8], result[8], work[512], cells[512], tape[TAPE];
@@ -51,36 +55,61 @@ static void set_up(size_t shares) {
     for (size_t i = 0; i < PAIRS; i++) a[i] = random_number(), b[i] = random_number();
     lubewon_split(a[0], tape, TAPE, x, n);
     lubewon_split(b[0], tape + 8, TAPE - 8, y, n);
-    lubewon_answer answer = lubewon_translate(n, product.plan, product.plan_len, program, PROGRAM);
+    lubewon_answer answer = lubewon_translate(n, operations[PRODUCT].plan, operations[PRODUCT].plan_len, program, PROGRAM);
     program_len = answer.words;
     program_tape = answer.tape;
 }
 
 /* ---- Cases: one call each, or PAIRS of them for the plain operations ---- */
 
-static void product_library(void) { lubewon_product_shares(x, n, y, n, result, n, work, 512, tape, TAPE); }
-static void product_base(void) { base_operation(product.plan, product.plan_len, x, n, y, result, work, tape, TAPE); }
-static void sum_library(void) { lubewon_sum_shares(x, n, y, n, result, n, work, 512, tape, TAPE); }
-static void sum_base(void) { base_operation(sum.plan, sum.plan_len, x, n, y, result, work, tape, TAPE); }
-static void floor_library(void) { lubewon_floor_shares(x, n, result, n, work, 512, tape, TAPE); }
-static void floor_base(void) { base_operation(floored.plan, floored.plan_len, x, n, NULL, result, work, tape, TAPE); }
-static void run_library(void) { lubewon_share_run(program, program_len, 0, tape, TAPE, 0, program_len, cells, 512); }
-static void run_base(void) { base_share_run(program, program_len, 0, tape, TAPE, 0, program_len, cells, 512); }
-static void translate_library(void) { lubewon_translate(n, product.plan, product.plan_len, written, PROGRAM); }
-static void translate_base(void) { base_translate(n, product.plan, product.plan_len, written, PROGRAM); }
+static lubewon_answer by_gadgets(const operation *op, uint64_t *to) {
+    return base_operation(op->plan, op->plan_len, x, n, op->two ? y : NULL, to, work, tape, TAPE);
+}
 
-#define PLAIN(name, call)                                              \
+#define EACH_PAIR(name, call)                                          \
     static void name(void) {                                           \
         uint64_t all = 0;                                              \
-        for (size_t i = 0; i < PAIRS; i++) all ^= call;                \
+        for (size_t i = 0; i < PAIRS; i++) all ^= call(a[i], b[i]);    \
         sink = all;                                                    \
     }
-PLAIN(plain_product_library, lubewon_product(a[i], b[i]))
-PLAIN(plain_product_base, base_product(a[i], b[i]))
-PLAIN(plain_sum_library, lubewon_sum(a[i], b[i]))
-PLAIN(plain_sum_base, base_sum(a[i], b[i]))
-PLAIN(plain_floor_library, lubewon_floor(a[i]))
-PLAIN(plain_floor_base, base_floor(a[i]))
+
+/* An operation's cases; below, its calls in one form for all operations, whether they take two operands or one. */
+#define CASES(op, OP)                                                                      \
+    static void op##_shares_library(void) { op##_shares(); }                               \
+    static void op##_shares_base(void) { by_gadgets(&operations[OP], result); }            \
+    EACH_PAIR(op##_plain_library, op##_plain)                                              \
+    EACH_PAIR(op##_plain_base, op##_base)
+
+#define TWO_OPERANDS(op, OP)                                                                                                           \
+    static lubewon_answer op##_shares(void) { return lubewon_##op##_shares(x, n, y, n, result, n, work, 512, tape, TAPE); }            \
+    static uint64_t op##_plain(uint64_t p, uint64_t q) { return lubewon_##op(p, q); }                                                  \
+    static uint64_t op##_base(uint64_t p, uint64_t q) { return base_##op(p, q); }                                                      \
+    CASES(op, OP)
+
+#define ONE_OPERAND(op, OP)                                                                                                            \
+    static lubewon_answer op##_shares(void) { return lubewon_##op##_shares(x, n, result, n, work, 512, tape, TAPE); }                  \
+    static uint64_t op##_plain(uint64_t p, uint64_t q) { return (void)q, lubewon_##op(p); }                                            \
+    static uint64_t op##_base(uint64_t p, uint64_t q) { return (void)q, base_##op(p); }                                                \
+    CASES(op, OP)
+
+TWO_OPERANDS(product, PRODUCT)
+TWO_OPERANDS(sum, SUM)
+ONE_OPERAND(floor, FLOOR)
+ONE_OPERAND(truncate, TRUNCATE)
+ONE_OPERAND(nearest, NEAREST)
+
+static operation operations[OPERATIONS] = {
+    {"product", lubewon_copy_product_plan, product_shares, product_plain, product_base, true, {0}, 0},
+    {"sum", lubewon_copy_sum_plan, sum_shares, sum_plain, sum_base, true, {0}, 0},
+    {"floor", lubewon_copy_floor_plan, floor_shares, floor_plain, floor_base, false, {0}, 0},
+    {"truncate", lubewon_copy_truncate_plan, truncate_shares, truncate_plain, truncate_base, false, {0}, 0},
+    {"nearest", lubewon_copy_nearest_plan, nearest_shares, nearest_plain, nearest_base, false, {0}, 0},
+};
+
+static void run_library(void) { lubewon_share_run(program, program_len, 0, tape, TAPE, 0, program_len, cells, 512); }
+static void run_base(void) { base_share_run(program, program_len, 0, tape, TAPE, 0, program_len, cells, 512); }
+static void translate_library(void) { lubewon_translate(n, operations[PRODUCT].plan, operations[PRODUCT].plan_len, written, PROGRAM); }
+static void translate_base(void) { base_translate(n, operations[PRODUCT].plan, operations[PRODUCT].plan_len, written, PROGRAM); }
 
 typedef enum { OPERATION, SHARE_WORD, PLAIN_OPERATION } unit;
 
@@ -89,14 +118,18 @@ static const struct {
     void (*library)(void), (*base)(void);
     unit per;
 } cases[] = {
-    {"product on shares", product_library, product_base, OPERATION},
-    {"sum on shares", sum_library, sum_base, OPERATION},
-    {"floor on shares", floor_library, floor_base, OPERATION},
+    {"product on shares", product_shares_library, product_shares_base, OPERATION},
+    {"sum on shares", sum_shares_library, sum_shares_base, OPERATION},
+    {"floor on shares", floor_shares_library, floor_shares_base, OPERATION},
+    {"truncate on shares", truncate_shares_library, truncate_shares_base, OPERATION},
+    {"nearest on shares", nearest_shares_library, nearest_shares_base, OPERATION},
     {"share run, per word", run_library, run_base, SHARE_WORD},
     {"translate, per share word", translate_library, translate_base, SHARE_WORD},
-    {"plain product", plain_product_library, plain_product_base, PLAIN_OPERATION},
-    {"plain sum", plain_sum_library, plain_sum_base, PLAIN_OPERATION},
-    {"plain floor", plain_floor_library, plain_floor_base, PLAIN_OPERATION},
+    {"plain product", product_plain_library, product_plain_base, PLAIN_OPERATION},
+    {"plain sum", sum_plain_library, sum_plain_base, PLAIN_OPERATION},
+    {"plain floor", floor_plain_library, floor_plain_base, PLAIN_OPERATION},
+    {"plain truncate", truncate_plain_library, truncate_plain_base, PLAIN_OPERATION},
+    {"plain nearest", nearest_plain_library, nearest_plain_base, PLAIN_OPERATION},
 };
 
 static double units(unit per) {
@@ -200,13 +233,12 @@ static void check_plan(const uint32_t *plan, size_t plan_len) {
          "a share run turned down");
 }
 
-static void check_operation(const operation *op, lubewon_answer answer, uint64_t joined) {
-    uint64_t library[8], base[8];
-    memcpy(library, result, sizeof library);
-    lubewon_answer other = base_operation(op->plan, op->plan_len, x, n, op == &floored ? NULL : y, base, work, tape, TAPE);
-    same(answer.number == 0 && same_answer(answer, other), op->name);
-    same(memcmp(library, base, n * sizeof *base) == 0, op->name);
-    same(lubewon_join(library, n).word == joined, op->name);
+static void check_operation(const operation *op, uint64_t joined) {
+    uint64_t base[8];
+    lubewon_answer answer = op->on_shares();
+    same(answer.number == 0 && same_answer(answer, by_gadgets(op, base)), op->name);
+    same(memcmp(result, base, n * sizeof *base) == 0, op->name);
+    same(lubewon_join(result, n).word == joined, op->name);
 }
 
 static uint32_t random_plan_word(void) {
@@ -215,48 +247,44 @@ static uint32_t random_plan_word(void) {
     return kind << 28 | r;
 }
 
-static void check(void) {
+static void check_on_shares(void) {
     uint32_t plan[12];
-    for (size_t shares = 2; shares <= 8; shares++) {
-        set_up(shares);
-        for (int round = 0; round < 50; round++) {
-            for (size_t i = 0; i < 12; i++) plan[i] = random_plan_word();
-            check_plan(plan, 12);
-        }
-        check_plan(product.plan, product.plan_len);
-        check_plan(sum.plan, sum.plan_len);
-        check_plan(floored.plan, floored.plan_len);
-        for (size_t i = 0; i < 20; i++) {
-            lubewon_split(a[i], tape, TAPE, x, n);
-            lubewon_split(b[i], tape + 8, TAPE - 8, y, n);
-            check_operation(&product, lubewon_product_shares(x, n, y, n, result, n, work, 512, tape, TAPE), base_product(a[i], b[i]));
-            check_operation(&sum, lubewon_sum_shares(x, n, y, n, result, n, work, 512, tape, TAPE), base_sum(a[i], b[i]));
-            check_operation(&floored, lubewon_floor_shares(x, n, result, n, work, 512, tape, TAPE), base_floor(a[i]));
-        }
+    for (int round = 0; round < 50; round++) {
+        for (size_t i = 0; i < 12; i++) plan[i] = random_plan_word();
+        check_plan(plan, 12);
     }
-    for (int round = 0; round < 2000000; round++) {
-        uint64_t p = round % 2 ? random_word() : random_number(), q = round % 2 ? random_word() : random_number();
-        same(lubewon_product(p, q) == base_product(p, q), "plain product");
-        same(lubewon_sum(p, q) == base_sum(p, q), "plain sum");
-        same(lubewon_floor(p) == base_floor(p), "plain floor");
+    for (const operation *op = operations; op < operations + OPERATIONS; op++) check_plan(op->plan, op->plan_len);
+    for (size_t i = 0; i < 20; i++) {
+        lubewon_split(a[i], tape, TAPE, x, n);
+        lubewon_split(b[i], tape + 8, TAPE - 8, y, n);
+        for (const operation *op = operations; op < operations + OPERATIONS; op++) check_operation(op, op->base(a[i], b[i]));
     }
 }
 
-/* Words and tape words of the three operations, for the second table. */
+static void check(void) {
+    for (size_t shares = 2; shares <= 8; shares++) {
+        set_up(shares);
+        check_on_shares();
+    }
+    for (int round = 0; round < 2000000; round++) {
+        uint64_t p = round % 2 ? random_word() : random_number(), q = round % 2 ? random_word() : random_number();
+        if (round % 4 == 0) p &= UINT64_MAX << 50; /* two bits of fraction, so that 0.5, 1.5 and 2.5 occur */
+        for (const operation *op = operations; op < operations + OPERATIONS; op++) same(op->plain(p, q) == op->base(p, q), op->name);
+    }
+}
+
+/* Words and tape words of the operations, for the second table. */
 static void sizes(void) {
-    const operation *all[] = {&product, &sum, &floored};
-    for (size_t i = 0; i < 3; i++)
+    for (const operation *op = operations; op < operations + OPERATIONS; op++)
         for (size_t shares = 2; shares <= 8; shares++) {
-            lubewon_answer m = lubewon_measure(shares, all[i]->plan, all[i]->plan_len);
-            printf("size|%s|%zu|%zu|%zu|%zu\n", all[i]->name, shares, all[i]->plan_len, m.words, m.tape);
+            lubewon_answer m = lubewon_measure(shares, op->plan, op->plan_len);
+            printf("size|%s|%zu|%zu|%zu|%zu\n", op->name, shares, op->plan_len, m.words, m.tape);
         }
 }
 
 int main(int argc, char **argv) {
     const char *mode = argc == 2 ? argv[1] : "";
-    product.plan_len = lubewon_copy_product_plan(product.plan, PLAN).words;
-    sum.plan_len = lubewon_copy_sum_plan(sum.plan, PLAN).words;
-    floored.plan_len = lubewon_copy_floor_plan(floored.plan, PLAN).words;
+    for (operation *op = operations; op < operations + OPERATIONS; op++) op->plan_len = op->copy(op->plan, PLAN).words;
     if (strcmp(mode, "check") == 0) check();
     else if (strcmp(mode, "time") == 0) each_case(time_case);
     else if (strcmp(mode, "count") == 0) each_case(count_case);

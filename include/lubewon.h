@@ -53,8 +53,8 @@ extern "C" {
 #endif
 
 /* The number grows by one with every change of the calls. */
-#define LUBEWON_VERSION "0.9"
-#define LUBEWON_VERSION_NUMBER 9
+#define LUBEWON_VERSION "0.10"
+#define LUBEWON_VERSION_NUMBER 10
 
 /* Turn-downs. */
 enum {
@@ -83,9 +83,13 @@ enum {
 #define LUBEWON_PRODUCT_PLAN 810
 #define LUBEWON_SUM_PLAN 300
 #define LUBEWON_FLOOR_PLAN 83
+#define LUBEWON_TRUNCATE_PLAN 169
+#define LUBEWON_NEAREST_PLAN 301
 #define LUBEWON_PRODUCT_TAPE(n) (89 * (n) * ((n) - 1))
 #define LUBEWON_SUM_TAPE(n) (81 * (n) * ((n) - 1))
 #define LUBEWON_FLOOR_TAPE(n) (23 * (n) * ((n) - 1))
+#define LUBEWON_TRUNCATE_TAPE(n) (5 * (n) * ((n) - 1))
+#define LUBEWON_NEAREST_TAPE(n) (14 * (n) * ((n) - 1))
 /* Split: n - 1. */
 #define LUBEWON_SPLIT_TAPE(n) ((n) - 1)
 
@@ -121,18 +125,22 @@ lubewon_answer lubewon_share_run(const uint32_t *program, size_t program_len, si
 lubewon_answer lubewon_one_share_step(uint32_t word, const uint64_t *tape, size_t tape_len, size_t tape_place, uint64_t *cells,
                                       size_t cells_len);
 
-/* Product, sum and floor on n shares, n the first operand's length: y and result have n words, work 512. What work holds at the start does
- * not matter; it is zeros when the call is done. Turn-downs 1, 4, 6. tape counts the tape words used, as the macros above have them. The results
- * join to what the plain operations below give for the joined operands. */
+/* Product, sum, floor, truncation and nearest on n shares, n the first operand's length: y and result have n words, work 512. What work holds at
+ * the start does not matter; it is zeros when the call is done. Turn-downs 1, 4, 6. tape counts the tape words used, as the macros above have
+ * them. The results join to what the plain operations below give for the joined operands. */
 lubewon_answer lubewon_product_shares(const uint64_t *x, size_t x_len, const uint64_t *y, size_t y_len, uint64_t *result,
                                       size_t result_len, uint64_t *work, size_t work_len, const uint64_t *tape, size_t tape_len);
 lubewon_answer lubewon_sum_shares(const uint64_t *x, size_t x_len, const uint64_t *y, size_t y_len, uint64_t *result, size_t result_len,
                                   uint64_t *work, size_t work_len, const uint64_t *tape, size_t tape_len);
 lubewon_answer lubewon_floor_shares(const uint64_t *x, size_t x_len, uint64_t *result, size_t result_len, uint64_t *work, size_t work_len,
                                     const uint64_t *tape, size_t tape_len);
+lubewon_answer lubewon_truncate_shares(const uint64_t *x, size_t x_len, uint64_t *result, size_t result_len, uint64_t *work, size_t work_len,
+                                       const uint64_t *tape, size_t tape_len);
+lubewon_answer lubewon_nearest_shares(const uint64_t *x, size_t x_len, uint64_t *result, size_t result_len, uint64_t *work, size_t work_len,
+                                      const uint64_t *tape, size_t tape_len);
 
-/* Product, sum and floor on n shares with the result in x, in place of the first operand: an accumulator needs no second array. n is x's length;
- * y has n words, work 512. Turn-downs 1; 4 where y or work (floor: work) has the wrong length; 6. Turned down, x and work are unchanged. Done, x has
+/* The operations on n shares with the result in x, in place of the first operand: an accumulator needs no second array. n is x's length; y has n
+ * words, work 512. Turn-downs 1; 4 where y, if there is one, or work has the wrong length; 6. Turned down, x and work are unchanged. Done, x has
  * the result's shares, just those that the calls above would give for this tape; work is zeros; tape counts the tape words used. y and tape are
  * only read. x is written, so y, work and tape must not overlap it: a square needs a copy of x as y; to replace the second operand exchange the
  * two. A call that is interrupted and never resumed leaves shares in work, and x in no state that is promised: wipe both. All terms added to sum, which
@@ -148,23 +156,33 @@ lubewon_answer lubewon_product_in_place(uint64_t *x, size_t x_len, const uint64_
 lubewon_answer lubewon_sum_in_place(uint64_t *x, size_t x_len, const uint64_t *y, size_t y_len, uint64_t *work, size_t work_len,
                                     const uint64_t *tape, size_t tape_len);
 lubewon_answer lubewon_floor_in_place(uint64_t *x, size_t x_len, uint64_t *work, size_t work_len, const uint64_t *tape, size_t tape_len);
+lubewon_answer lubewon_truncate_in_place(uint64_t *x, size_t x_len, uint64_t *work, size_t work_len, const uint64_t *tape, size_t tape_len);
+lubewon_answer lubewon_nearest_in_place(uint64_t *x, size_t x_len, uint64_t *work, size_t work_len, const uint64_t *tape, size_t tape_len);
 
-/* Product, sum and floor on plain words; never turned down. E = 0 reads as a zero of the word's sign, whatever F; otherwise the number is
+/* The operations on plain words; never turned down. E = 0 reads as a zero of the word's sign, whatever F; otherwise the number is
  * (2^52 + F) times 2^(E - 1075), E = 2047 included: there are no infinities, no NaN and no subnormal numbers. Product and sum: an exact result
  * that is not zero and below 2^-1022 in magnitude is a zero of its sign, before any rounding; else it is rounded to 53 bits, to the nearest,
  * ties to even; where the rounded E would be 2047 or more the result has E = 2047, F = 0. A product's sign is the exclusive-or of the signs,
- * for zeros too. A sum of two zeros is minus zero only if both are; exact cancellation gives plus zero. Floor: an operand with E >= 1075 is
- * returned as it is; E < 1023 gives plus zero, or -1 for a set sign bit, minus zero included; between, the greatest whole number not above the
- * operand. */
+ * for zeros too. A sum of two zeros is minus zero only if both are; exact cancellation gives plus zero.
+ *
+ * Floor, truncation and nearest return an operand with E >= 1075 as it is. Below that, floor is the greatest whole number not above the operand,
+ * plus zero where that is zero; but -1 where E = 0 and the sign bit is set, minus zero included. Truncation drops the fraction; nearest is the
+ * nearest whole number, of two equally near the even one, so that 2.5 gives 2. Both keep the sign, so that -0.5 gives minus zero, and with E = 0
+ * give the zero of the word's sign. For every zero (E = F = 0) and every normal operand (E from 1 to 2046) these two have IEEE 754's bits, those of
+ * C's trunc, and of its rint where it rounds to nearest; so has floor, but for minus zero. */
 uint64_t lubewon_product(uint64_t a, uint64_t b);
 uint64_t lubewon_sum(uint64_t a, uint64_t b);
 uint64_t lubewon_floor(uint64_t a);
+uint64_t lubewon_truncate(uint64_t a);
+uint64_t lubewon_nearest(uint64_t a);
 
-/* The built-in plans, copied to the front of out: operands in registers 0 and 1, result in 2. Turn-down 4 where out is too short; out stays as
- * it is past the plan's end. words counts the plan's words. */
+/* The built-in plans, copied to the front of out: operands in registers 0 and 1, a single one in 0, result in 2. Turn-down 4 where out is too
+ * short; out stays as it is past the plan's end. words counts the plan's words. */
 lubewon_answer lubewon_copy_product_plan(uint32_t *out, size_t out_len);
 lubewon_answer lubewon_copy_sum_plan(uint32_t *out, size_t out_len);
 lubewon_answer lubewon_copy_floor_plan(uint32_t *out, size_t out_len);
+lubewon_answer lubewon_copy_truncate_plan(uint32_t *out, size_t out_len);
+lubewon_answer lubewon_copy_nearest_plan(uint32_t *out, size_t out_len);
 
 /* A word split into out_len shares: shares 1 and up are the tape's words in order, share 0 the rest. Turn-downs 1, and 6 below out_len - 1 tape
  * words, which is how many it uses. No counts: the answer's tape is 0 all the same. */

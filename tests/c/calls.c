@@ -1,4 +1,4 @@
-/* Each call of lubewon.h beside the reference, and the three operations: see calls.h. */
+/* Each call of lubewon.h beside the reference, and the operations: see calls.h. */
 #include "calls.h"
 
 #include "check.h"
@@ -83,34 +83,33 @@ void split_into(uint64_t word, uint64_t *out, size_t n) {
     CHECK(lubewon_split(word, tape, n - 1, out, n).number == 0, "split");
 }
 
-/* ---- The three operations ---- */
+/* ---- The operations ---- */
 
-static lubewon_answer floor_shares(const uint64_t *x, size_t x_len, const uint64_t *y, size_t y_len, uint64_t *result, size_t result_len,
-                                   uint64_t *work, size_t work_len, const uint64_t *tape, size_t tape_len) {
-    (void)y, (void)y_len;
-    return lubewon_floor_shares(x, x_len, result, result_len, work, work_len, tape, tape_len);
-}
+/* Calls with one operand, in the form of those with two. */
+#define ONE_OPERAND(name)                                                                                                                    \
+    static lubewon_answer name##_shares(const uint64_t *x, size_t x_len, const uint64_t *y, size_t y_len, uint64_t *result, size_t r_len,    \
+                                        uint64_t *work, size_t work_len, const uint64_t *tape, size_t tape_len) {                            \
+        (void)y, (void)y_len;                                                                                                                \
+        return lubewon_##name##_shares(x, x_len, result, r_len, work, work_len, tape, tape_len);                                             \
+    }                                                                                                                                        \
+    static lubewon_answer name##_in_place(uint64_t *x, size_t x_len, const uint64_t *y, size_t y_len, uint64_t *work, size_t work_len,       \
+                                          const uint64_t *tape, size_t tape_len) {                                                           \
+        (void)y, (void)y_len;                                                                                                                \
+        return lubewon_##name##_in_place(x, x_len, work, work_len, tape, tape_len);                                                          \
+    }                                                                                                                                        \
+    static uint64_t name##_plain(uint64_t a, uint64_t b) { return (void)b, lubewon_##name(a); }                                              \
+    static uint64_t name##_reference(uint64_t a, uint64_t b) { return (void)b, ref_##name(a); }
 
-static lubewon_answer floor_in_place(uint64_t *x, size_t x_len, const uint64_t *y, size_t y_len, uint64_t *work, size_t work_len,
-                                     const uint64_t *tape, size_t tape_len) {
-    (void)y, (void)y_len;
-    return lubewon_floor_in_place(x, x_len, work, work_len, tape, tape_len);
-}
+ONE_OPERAND(floor)
+ONE_OPERAND(truncate)
+ONE_OPERAND(nearest)
 
-static uint64_t floor_plain(uint64_t a, uint64_t b) {
-    (void)b;
-    return lubewon_floor(a);
-}
-
-static uint64_t floor_reference(uint64_t a, uint64_t b) {
-    (void)b;
-    return ref_floor(a);
-}
-
-operation operations[] = {
-    {"product", lubewon_copy_product_plan, lubewon_product_shares, lubewon_product_in_place, lubewon_product, ref_product, true, {0}, 0},
-    {"sum", lubewon_copy_sum_plan, lubewon_sum_shares, lubewon_sum_in_place, lubewon_sum, ref_sum, true, {0}, 0},
-    {"floor", lubewon_copy_floor_plan, floor_shares, floor_in_place, floor_plain, floor_reference, false, {0}, 0},
+operation operations[OPERATIONS] = {
+    [PRODUCT] = {"product", lubewon_copy_product_plan, lubewon_product_shares, lubewon_product_in_place, lubewon_product, ref_product, true, {0}, 0},
+    [SUM] = {"sum", lubewon_copy_sum_plan, lubewon_sum_shares, lubewon_sum_in_place, lubewon_sum, ref_sum, true, {0}, 0},
+    [FLOOR] = {"floor", lubewon_copy_floor_plan, floor_shares, floor_in_place, floor_plain, floor_reference, false, {0}, 0},
+    [TRUNCATE] = {"truncate", lubewon_copy_truncate_plan, truncate_shares, truncate_in_place, truncate_plain, truncate_reference, false, {0}, 0},
+    [NEAREST] = {"nearest", lubewon_copy_nearest_plan, nearest_shares, nearest_in_place, nearest_plain, nearest_reference, false, {0}, 0},
 };
 
 lubewon_answer try_on_shares(uint32_t number, const operation *op, const uint64_t *x, size_t x_len, const uint64_t *y, size_t y_len,

@@ -25,7 +25,9 @@ uint64_t try_join(uint32_t number, const uint64_t *shares, size_t shares_len);
 /* A word split over random tape words. */
 void split_into(uint64_t word, uint64_t *out, size_t n);
 
-/* ---- The three operations, with the plans that the library copies out ---- */
+/* ---- The operations, with the plans that the library copies out ---- */
+
+enum { PRODUCT, SUM, FLOOR, TRUNCATE, NEAREST, OPERATIONS };
 
 typedef struct {
     const char *name;
@@ -35,12 +37,12 @@ typedef struct {
     lubewon_answer (*in_place)(uint64_t *, size_t, const uint64_t *, size_t, uint64_t *, size_t, const uint64_t *, size_t);
     uint64_t (*plain)(uint64_t, uint64_t);
     uint64_t (*reference)(uint64_t, uint64_t);
-    bool two; /* operands */
+    bool two; /* operands; where there is one, the second is not read */
     uint32_t plan[REF_PLAN_LIMIT];
     size_t plan_len;
 } operation;
 
-extern operation operations[3]; /* product, sum, floor */
+extern operation operations[OPERATIONS];
 
 lubewon_answer try_on_shares(uint32_t number, const operation *op, const uint64_t *x, size_t x_len, const uint64_t *y, size_t y_len,
                              uint64_t *result, size_t result_len, uint64_t *work, size_t work_len, const uint64_t *tape, size_t tape_len);

@@ -1,4 +1,4 @@
-/* Operands of product, sum and floor: random ones, drawn where rounding and the edges of binary64 are, and the edge table. */
+/* Operands of the operations: random ones, drawn where rounding and the edges of binary64 are, and the edge table. */
 #ifndef OPERANDS_H
 #define OPERANDS_H
 
@@ -13,7 +13,7 @@ void random_pair(uint64_t *a, uint64_t *b);
 
 /* Operands and results by hand. */
 typedef struct {
-    int operation; /* 0 product, 1 sum, 2 floor */
+    int operation; /* its place in the table of calls.h */
     uint64_t a, b, result;
 } edge;
 

@@ -1,4 +1,4 @@
-/* The reference that the C test holds the library against: document 01 once more, in plain C, with 128-bit integers for the numbers. */
+/* The reference that the C test holds the library against: the documents once more, in plain C, with 128-bit integers for the numbers. */
 #include "reference.h"
 
 #include <stdlib.h>
@@ -437,6 +437,12 @@ uint64_t ref_sum(uint64_t a, uint64_t b) {
     return round_exact(order > 0 ? sign_of(a) : sign_of(b), &exact);
 }
 
+/* A whole number of at most 53 bits, which no rounding changes. */
+static uint64_t whole_number(unsigned sign, uint64_t whole) {
+    magnitude exact = multiples(whole, 2148);
+    return whole == 0 ? zero_of_sign(sign) : round_exact(sign, &exact);
+}
+
 uint64_t ref_floor(uint64_t a) {
     unsigned exponent = exponent_of(a), sign = sign_of(a);
     if (exponent >= 1075) return a;
@@ -444,6 +450,29 @@ uint64_t ref_floor(uint64_t a) {
     unsigned below_point = 1075 - exponent;
     uint64_t whole = significand_of(a) >> below_point;
     if (sign && whole << below_point != significand_of(a)) whole++;
-    magnitude exact = multiples(whole, 2148);
-    return round_exact(sign, &exact);
+    return whole_number(sign, whole);
+}
+
+/* The 53 bits above the point: all that a magnitude below 2^53 has there. */
+static uint64_t without_fraction(const magnitude *m) {
+    uint64_t whole = 0;
+    for (unsigned i = 53; i-- > 0;) whole = 2 * whole + bit_at(m, 2148 + i);
+    return whole;
+}
+
+/* "Truncation drops the fraction", and keeps the sign: where E = 0 the magnitude is 0, and so is what is kept of it. */
+uint64_t ref_truncate(uint64_t a) {
+    if (exponent_of(a) >= 1075) return a;
+    magnitude m = magnitude_of(a);
+    return whole_number(sign_of(a), without_fraction(&m));
+}
+
+/* "nearest takes a tie to the even whole number", and keeps the sign likewise. */
+uint64_t ref_nearest(uint64_t a) {
+    if (exponent_of(a) >= 1075) return a;
+    magnitude m = magnitude_of(a);
+    uint64_t whole = without_fraction(&m);
+    bool half = bit_at(&m, 2147), rest = any_bit_below(&m, 2147);
+    if (half && (rest || whole % 2 == 1)) whole++;
+    return whole_number(sign_of(a), whole);
 }

@@ -1,6 +1,7 @@
-/* An independent reading of document 01 in plain C: step words, the plain machine, translation for n shares, the share machine, product,
- * sum and floor, split and join. Written for the C test from the document alone; it shares nothing with the library and is slow and plain
- * on purpose. Each call takes what the library's call takes, gives its answer and leaves its lent words as the document says. */
+/* An independent reading of document 01 in plain C, and of document 02 for truncation and nearest: step words, the plain machine, translation for
+ * n shares, the share machine, the operations on numbers, split and join. Written for the C test from the documents alone; it shares nothing with
+ * the library and is slow and plain on purpose. Each call takes what the library's call takes, gives its answer and leaves its lent words as the
+ * documents say. */
 #ifndef REFERENCE_H
 #define REFERENCE_H
 
@@ -46,6 +47,8 @@ ref_answer ref_operation(const uint32_t *plan, size_t plan_len, const uint64_t *
 uint64_t ref_product(uint64_t a, uint64_t b);
 uint64_t ref_sum(uint64_t a, uint64_t b);
 uint64_t ref_floor(uint64_t a);
+uint64_t ref_truncate(uint64_t a);
+uint64_t ref_nearest(uint64_t a);
 
 ref_answer ref_split(uint64_t word, const uint64_t *tape, size_t tape_len, uint64_t *out, size_t out_len);
 ref_answer ref_join(const uint64_t *shares, size_t shares_len, uint64_t *word);

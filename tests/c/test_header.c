@@ -20,6 +20,13 @@ static void limits(void) {
     CHECK(lubewon_one_share_step(rand, tape, 0, 0, cells, LUBEWON_CELLS).number == LUBEWON_TAPE_SHORT, "header: tape short");
 }
 
+static void plan_words(void) {
+    static const size_t words[OPERATIONS] = {LUBEWON_PRODUCT_PLAN, LUBEWON_SUM_PLAN, LUBEWON_FLOOR_PLAN, LUBEWON_TRUNCATE_PLAN, LUBEWON_NEAREST_PLAN};
+    static uint32_t plan[LUBEWON_PLAN_MAX];
+    for (size_t i = 0; i < OPERATIONS; i++)
+        CHECK(operations[i].copy(plan, LUBEWON_PLAN_MAX).words == words[i], "header: plan of %s", operations[i].name);
+}
+
 /* An operation takes just the tape words that its macro says: with one fewer it is turned down. */
 static void tape_words(const operation *op, size_t n, size_t words) {
     static uint64_t tape[8192];
@@ -49,18 +56,15 @@ static void cells_of(size_t n) {
 }
 
 void test_header(void) {
-    static uint32_t plan[LUBEWON_PLAN_MAX];
     begin("header");
     limits();
-    CHECK(lubewon_copy_product_plan(plan, LUBEWON_PLAN_MAX).words == LUBEWON_PRODUCT_PLAN, "header: product's plan");
-    CHECK(lubewon_copy_sum_plan(plan, LUBEWON_PLAN_MAX).words == LUBEWON_SUM_PLAN, "header: sum's plan");
-    CHECK(lubewon_copy_floor_plan(plan, LUBEWON_PLAN_MAX).words == LUBEWON_FLOOR_PLAN, "header: floor's plan");
+    plan_words();
     for (size_t n = LUBEWON_LEAST_SHARES; n <= LUBEWON_MOST_SHARES; n++) {
-        tape_words(&operations[0], n, LUBEWON_PRODUCT_TAPE(n));
-        tape_words(&operations[1], n, LUBEWON_SUM_TAPE(n));
-        tape_words(&operations[2], n, LUBEWON_FLOOR_TAPE(n));
+        const size_t words[OPERATIONS] = {LUBEWON_PRODUCT_TAPE(n), LUBEWON_SUM_TAPE(n), LUBEWON_FLOOR_TAPE(n), LUBEWON_TRUNCATE_TAPE(n),
+                                          LUBEWON_NEAREST_TAPE(n)};
+        for (size_t i = 0; i < OPERATIONS; i++) tape_words(&operations[i], n, words[i]);
         splitting(n);
         cells_of(n);
     }
-    end("limits, turn-downs, tape words and cells as the macros have them");
+    end("limits, turn-downs, plan words, tape words and cells as the macros have them");
 }

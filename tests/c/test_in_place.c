@@ -31,7 +31,7 @@ typedef struct {
     size_t x, y, work, tape;
 } lengths;
 
-/* One wrong length of y or work, by turns, then both. Floor has no y. */
+/* One wrong length of y or work, by turns, then both. With one operand there is no y. */
 static void spoil(const operation *op, int turn, lengths *l) {
     static const size_t works[] = {0, 32, 511, 513};
     size_t shorter = l->x ? l->x - 1 : 1, longer = l->x < 10 ? l->x + 1 : 2;

@@ -1,4 +1,5 @@
 /* Groups: plain operations, plan copies. */
+#include <fenv.h>
 #include <math.h>
 #include <stdio.h>
 #include <string.h>
@@ -22,7 +23,7 @@ static uint64_t as_bits(double number) {
     return bits;
 }
 
-/* Operands on which document 01 and IEEE 754 agree: normal numbers and true zeros. */
+/* Operands that the documents and IEEE 754 read alike: normal numbers and true zeros. */
 static bool ordinary(uint64_t x) {
     uint64_t exponent = x >> 52 & 2047;
     return (exponent >= 1 && exponent <= 2046) || x << 1 == 0;
@@ -69,17 +70,29 @@ static void try_native_sum(uint64_t a, uint64_t b, uint64_t native) {
     zeros++;
 }
 
+/* The roundings to a whole number are native ones: floor but for minus zero, truncation and nearest for all ordinary operands. */
+static void try_native_whole(uint64_t a) {
+    static const struct {
+        int operation;
+        double (*native)(double);
+        bool minus_zero;
+    } roundings[] = {{FLOOR, floor, false}, {TRUNCATE, trunc, true}, {NEAREST, nearbyint, true}, {NEAREST, rint, true}};
+    for (size_t i = 0; i < COUNT(roundings); i++) {
+        if (!ordinary(a) || (a == sign_bit && !roundings[i].minus_zero)) continue;
+        const operation *op = &operations[roundings[i].operation];
+        uint64_t got = op->plain(a, 0), native = as_bits(roundings[i].native(as_double(a)));
+        CHECK(got == native, "%s of %016lX is %016lX, natively %016lX", op->name, a, got, native);
+        natives++;
+    }
+}
+
 static void try_native(uint64_t a, uint64_t b) {
     volatile double x = as_double(a), y = as_double(b); /* no contraction, no folding */
     if (ordinary(a) && ordinary(b)) {
         try_native_product(a, b, as_bits(x * y));
         try_native_sum(a, b, as_bits(x + y));
     }
-    if (ordinary(a) && a != UINT64_C(1) << 63) {
-        uint64_t whole = as_bits(floor(x));
-        CHECK(lubewon_floor(a) == whole, "floor of %016lX differs from native %016lX", a, whole);
-        natives++;
-    }
+    try_native_whole(a);
 }
 
 static void try_pair(uint64_t a, uint64_t b) {
@@ -113,15 +126,15 @@ static void boundary(void) {
     try_pair(UINT64_C(0x0010000000000000), UINT64_C(0x3FF0000000000000)); /* at */
 }
 
-/* Floor of whole numbers and their neighbours. */
-static void floors(void) {
+/* Whole numbers, numbers halfway between two of them, and the neighbours of both. */
+static void whole_numbers_and_ties(void) {
     for (uint64_t exponent = 1015; exponent <= 1085; exponent++)
-        for (int round = 0; round < 1500; round++) {
+        for (int round = 0; round < 3000; round++) {
             unsigned cut = exponent < 1023 || exponent > 1075 ? 52 : 1075 - exponent;
-            uint64_t whole = random_fraction() & UINT64_MAX << cut;
-            uint64_t a = pack(below(2), exponent, whole + below(3) - 1);
-            try_plain(&operations[2], a, 0);
-            try_native(a, 0);
+            uint64_t whole = random_fraction() & UINT64_MAX << cut, half = round % 2 ? (UINT64_C(1) << cut) / 2 : 0;
+            uint64_t a = pack(below(2), exponent, whole + half + below(3) - 1);
+            for (int i = FLOOR; i <= NEAREST; i++) try_plain(&operations[i], a, 0);
+            try_native_whole(a);
         }
 }
 
@@ -129,6 +142,7 @@ void test_plain_operations(void) {
     uint64_t numbers[400], a, b;
     size_t count = edge_numbers(numbers);
     begin("plain operations");
+    CHECK(fegetround() == FE_TONEAREST, "native arithmetic does not round to nearest");
     for (size_t i = 0; i < edges; i++) {
         uint64_t got = try_plain(&operations[edge_table[i].operation], edge_table[i].a, edge_table[i].b);
         CHECK(got == edge_table[i].result, "edge table, row %zu: %016lX", i, got);
@@ -136,7 +150,7 @@ void test_plain_operations(void) {
     for (size_t i = 0; i < count; i++)
         for (size_t j = 0; j < count; j++) try_pair(numbers[i], numbers[j]);
     exponent_distances();
-    floors();
+    whole_numbers_and_ties();
     boundary();
     for (int round = 0; round < 1000000; round++) {
         random_pair(&a, &b);
@@ -145,7 +159,8 @@ void test_plain_operations(void) {
     CHECK(natives > 2000000, "only %lu comparisons with native binary64", natives);
     CHECK(rounded_up > 10000, "only %lu products just below 2^-1022", rounded_up);
     printf("%-20s %lu results as native; %lu below 2^-1022, zeros here, of which natively %lu round up to it\n", "", natives, zeros, rounded_up);
-    end("edge table, all pairs of edge operands, exponent distances 0..70, around 2^-1022, random pairs; against reference and native doubles");
+    end("edge table, all pairs of edge operands, exponent distances 0..70, whole numbers and ties, around 2^-1022, random pairs; "
+        "against reference and native doubles");
 }
 
 /* ---- Plan copies ---- */

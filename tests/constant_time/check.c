@@ -29,22 +29,43 @@ static void done(const char *call, size_t n, lubewon_answer answer) {
     exit(1);
 }
 
-static void operations(size_t n) {
-    all_secret();
-    done("product", n, lubewon_product_shares(x, n, y, n, result, n, work, LUBEWON_WORK, tape, TAPE));
-    all_secret();
-    done("sum", n, lubewon_sum_shares(x, n, y, n, result, n, work, LUBEWON_WORK, tape, TAPE));
-    all_secret();
-    done("floor", n, lubewon_floor_shares(x, n, result, n, work, LUBEWON_WORK, tape, TAPE));
-}
+/* ---- The operations, with two operands and with one: on shares, in place, on plain words ---- */
+static const struct {
+    const char *name, *name_in_place;
+    lubewon_answer (*shares)(const uint64_t *, size_t, const uint64_t *, size_t, uint64_t *, size_t, uint64_t *, size_t, const uint64_t *, size_t);
+    lubewon_answer (*in_place)(uint64_t *, size_t, const uint64_t *, size_t, uint64_t *, size_t, const uint64_t *, size_t);
+    uint64_t (*plain)(uint64_t, uint64_t);
+} with_two[] = {
+    {"product", "product in place", lubewon_product_shares, lubewon_product_in_place, lubewon_product},
+    {"sum", "sum in place", lubewon_sum_shares, lubewon_sum_in_place, lubewon_sum},
+};
 
-static void operations_in_place(size_t n) {
-    all_secret();
-    done("product in place", n, lubewon_product_in_place(x, n, y, n, work, LUBEWON_WORK, tape, TAPE));
-    all_secret();
-    done("sum in place", n, lubewon_sum_in_place(x, n, y, n, work, LUBEWON_WORK, tape, TAPE));
-    all_secret();
-    done("floor in place", n, lubewon_floor_in_place(x, n, work, LUBEWON_WORK, tape, TAPE));
+static const struct {
+    const char *name, *name_in_place;
+    lubewon_answer (*shares)(const uint64_t *, size_t, uint64_t *, size_t, uint64_t *, size_t, const uint64_t *, size_t);
+    lubewon_answer (*in_place)(uint64_t *, size_t, uint64_t *, size_t, const uint64_t *, size_t);
+    uint64_t (*plain)(uint64_t);
+} with_one[] = {
+    {"floor", "floor in place", lubewon_floor_shares, lubewon_floor_in_place, lubewon_floor},
+    {"truncate", "truncate in place", lubewon_truncate_shares, lubewon_truncate_in_place, lubewon_truncate},
+    {"nearest", "nearest in place", lubewon_nearest_shares, lubewon_nearest_in_place, lubewon_nearest},
+};
+
+enum { WITH_TWO = sizeof with_two / sizeof *with_two, WITH_ONE = sizeof with_one / sizeof *with_one };
+
+static void operations(size_t n) {
+    for (size_t k = 0; k < WITH_TWO; k++) {
+        all_secret();
+        done(with_two[k].name, n, with_two[k].shares(x, n, y, n, result, n, work, LUBEWON_WORK, tape, TAPE));
+        all_secret();
+        done(with_two[k].name_in_place, n, with_two[k].in_place(x, n, y, n, work, LUBEWON_WORK, tape, TAPE));
+    }
+    for (size_t k = 0; k < WITH_ONE; k++) {
+        all_secret();
+        done(with_one[k].name, n, with_one[k].shares(x, n, result, n, work, LUBEWON_WORK, tape, TAPE));
+        all_secret();
+        done(with_one[k].name_in_place, n, with_one[k].in_place(x, n, work, LUBEWON_WORK, tape, TAPE));
+    }
 }
 
 /* In a go, in pieces, and step by step. */
@@ -80,7 +101,8 @@ static void plain_calls(void) {
     uint64_t a = 1, b = 2;
     VALGRIND_MAKE_MEM_UNDEFINED(&a, sizeof a);
     VALGRIND_MAKE_MEM_UNDEFINED(&b, sizeof b);
-    x[0] = lubewon_product(a, b), x[1] = lubewon_sum(a, b), x[2] = lubewon_floor(a);
+    for (size_t k = 0; k < WITH_TWO; k++) result[k] = with_two[k].plain(a, b);
+    for (size_t k = 0; k < WITH_ONE; k++) result[WITH_TWO + k] = with_one[k].plain(a);
     all_secret();
     done("plain run", 1, lubewon_plain_run(plan, PLAN, cells, LUBEWON_REGISTERS));
 }
@@ -89,7 +111,6 @@ int main(int argc, char **argv) {
     (void)argv;
     for (size_t n = LUBEWON_LEAST_SHARES; n <= LUBEWON_MOST_SHARES; n++) {
         operations(n);
-        operations_in_place(n);
         share_runs(n);
         split_and_join(n);
     }

@@ -11,49 +11,43 @@ static uint64_t operand[2], drawn[2][8];
 static uint32_t program[PROGRAM];
 static size_t program_words;
 
-/* ---- One function a call ---- */
-static void product(void) {
-    answer = lubewon_product_shares(x, shares, y, shares, result, shares, work, LUBEWON_WORK, tape, TAPE);
-}
+/* ---- One function a call: of an operation its two forms, and with one operand the plain call in the form of those with two ---- */
+#define TWO_OPERANDS(name)                                                                                                      \
+    static void name##_shares(void) {                                                                                           \
+        answer = lubewon_##name##_shares(x, shares, y, shares, result, shares, work, LUBEWON_WORK, tape, TAPE);                 \
+    }                                                                                                                           \
+    static void name##_in_place(void) { answer = lubewon_##name##_in_place(x, shares, y, shares, work, LUBEWON_WORK, tape, TAPE); }
 
-static void sum(void) {
-    answer = lubewon_sum_shares(x, shares, y, shares, result, shares, work, LUBEWON_WORK, tape, TAPE);
-}
+#define ONE_OPERAND(name)                                                                                                       \
+    static void name##_shares(void) {                                                                                           \
+        answer = lubewon_##name##_shares(x, shares, result, shares, work, LUBEWON_WORK, tape, TAPE);                            \
+    }                                                                                                                           \
+    static void name##_in_place(void) { answer = lubewon_##name##_in_place(x, shares, work, LUBEWON_WORK, tape, TAPE); }        \
+    static uint64_t plain_##name(uint64_t a, uint64_t b) { return (void)b, lubewon_##name(a); }
 
-static void floored(void) {
-    answer = lubewon_floor_shares(x, shares, result, shares, work, LUBEWON_WORK, tape, TAPE);
-}
-
-static void product_in_place(void) {
-    answer = lubewon_product_in_place(x, shares, y, shares, work, LUBEWON_WORK, tape, TAPE);
-}
-
-static void sum_in_place(void) {
-    answer = lubewon_sum_in_place(x, shares, y, shares, work, LUBEWON_WORK, tape, TAPE);
-}
-
-static void floor_in_place(void) {
-    answer = lubewon_floor_in_place(x, shares, work, LUBEWON_WORK, tape, TAPE);
-}
+TWO_OPERANDS(product)
+TWO_OPERANDS(sum)
+ONE_OPERAND(floor)
+ONE_OPERAND(truncate)
+ONE_OPERAND(nearest)
 
 /* Floor's share program, whole, on the work slice as cells. */
 static void share_run(void) {
     answer = lubewon_share_run(program, program_words, 0, tape, TAPE, 0, program_words, work, LUBEWON_CELLS);
 }
 
-static uint64_t plain_floor(uint64_t a, uint64_t b) {
-    (void)b;
-    return lubewon_floor(a);
-}
-
 /* ---- The one table: name, call, what its result joins to, where the result is, and whether it runs on cells ---- */
 static const call_row rows[] = {
-    {"product", product, lubewon_product, result, 1, false},
-    {"sum", sum, lubewon_sum, result, 1, false},
-    {"floor", floored, plain_floor, result, 1, false},
+    {"product", product_shares, lubewon_product, result, 1, false},
+    {"sum", sum_shares, lubewon_sum, result, 1, false},
+    {"floor", floor_shares, plain_floor, result, 1, false},
+    {"truncate", truncate_shares, plain_truncate, result, 1, false},
+    {"nearest", nearest_shares, plain_nearest, result, 1, false},
     {"product_in_place", product_in_place, lubewon_product, x, 1, false},
     {"sum_in_place", sum_in_place, lubewon_sum, x, 1, false},
     {"floor_in_place", floor_in_place, plain_floor, x, 1, false},
+    {"truncate_in_place", truncate_in_place, plain_truncate, x, 1, false},
+    {"nearest_in_place", nearest_in_place, plain_nearest, x, 1, false},
     {"share_run", share_run, plain_floor, work + 2, LUBEWON_REGISTERS, true},
     {"control", control, NULL, result, 1, false},
     {"joins", sabotage_joins, plain_floor, result, 1, false},

@@ -1,7 +1,8 @@
--- Document 01's sentences at the corners: the theorem of specs/Corners. Rests on Round, SumCases and FloorModel; the concrete words by computation.
+-- The documents' sentences at the corners: the theorem of specs/Corners. Rests on Round, SumCases, FloorModel and WholeModel; the concrete words by
+-- computation.
 use mathlib.Core.Path.{_≡_, refl, sym, ap, ap₂, _∙_}
 use mathlib.Core.Logic.{inl, inr}
-use Prim.Native.Nat.{ℕ, zero, suc, _+_, _-_, _*_, _^_, _≤_, _<_}
+use Prim.Native.Nat.{ℕ, _+_, _-_, _*_, _^_, _≤_, _<_}
 use native.Mathlib.Omega.{arith}
 use lib.Arith.{digits-div}
 use lib.Ieee.{size}
@@ -12,10 +13,11 @@ use Rattle.binary64.specs.Product.{product}
 use Rattle.binary64.specs.Sum.{sumOf, sum}
 use Rattle.binary64.specs.Corners.{Corners}
 use Rattle.binary64.proofs.Cases.{zero-one}
-use Rattle.binary64.proofs.Words.{sign-cases}
+use Rattle.binary64.proofs.Words.{sign-cases, magnitude-is}
 use Rattle.binary64.proofs.Round.{bits-small, bits-lt, bits-zero}
 use Rattle.binary64.proofs.SumCases.{sum-like, sum-greater, sum-equal, sum-comm}
 use Rattle.binary64.proofs.FloorModel as F
+use Rattle.binary64.proofs.WholeModel as W
 
 -- ---- reading a word
 reads-zero : (a : ℕ) → expo a ≡ 0 → magnitude a ≡ 0
@@ -23,12 +25,7 @@ unfolding magnitude
 reads-zero a h = ap (λ (E : ℕ). magnitudeOf E (frac a)) h
 
 reads-number : (a : ℕ) → 1 ≤ expo a → magnitude a ≡ (2 ^ 52 + frac a) * 2 ^ (expo a - 1)
-unfolding magnitude
-reads-number a h = go (expo a) (frac a) h
-  where
-    go : (E F : ℕ) → 1 ≤ E → magnitudeOf E F ≡ (2 ^ 52 + F) * 2 ^ (E - 1)
-    go zero F h = absurd (omega arith)
-    go (suc e) F h = let q : e ≡ suc e - 1 = omega arith in ap (λ (x : ℕ). (2 ^ 52 + F) * 2 ^ x) q
+reads-number a h = magnitude-is a (expo a - 1) (omega arith)
 
 -- ---- underflow
 product-sign : (a b : ℕ) → sign (product a b) ≡ xorW (sign a) (sign b)
@@ -92,6 +89,11 @@ corners =
       floor-large = F.floor-large;
       floor-small-plus = F.floor-small-plus;
       floor-small-minus = λ a h s. F.floor-small-minus a h (λ t. zero-one t s);
+      truncate-large = W.truncate-large;
+      nearest-large = W.nearest-large;
+      truncate-small = W.truncate-small;
+      nearest-small = W.nearest-small;
+      nearest-half = W.nearest-half;
       no-nan = unfold size magnitude roundedE roundedF magBits sumOf sum in refl;
       no-infinity = unfold size magnitude roundedE roundedF magBits sumOf sum in refl;
       zero-times = unfold size xorW magnitude roundedE roundedF magBits product in refl;

@@ -1,4 +1,4 @@
--- Document 01's edge table, proved together: every row holds, by computing the definitions on its operands.
+-- Document 01's edge table and the one for truncation and nearest, each proved together: every row holds, by computing the definitions on its operands.
 use mathlib.Core.Path.{refl}
 use lib.Ieee.{size}
 use Rattle.bits.specs.Ops.{xorW}
@@ -7,8 +7,14 @@ use Rattle.binary64.specs.Rounding.{roundedE, roundedF, magBits}
 use Rattle.binary64.specs.Product.{product}
 use Rattle.binary64.specs.Sum.{sumOf, sum}
 use Rattle.binary64.specs.Floor.{floor}
-use Rattle.binary64.specs.Edges.{edges, EdgesHold}
+use Rattle.binary64.specs.Truncate.{truncate}
+use Rattle.binary64.specs.Nearest.{nearest}
+use Rattle.binary64.specs.Edges.{edges, EdgesHold, roundingEdges, RoundingEdgesHold}
 
 pub edges-hold : EdgesHold
 unfolding edges size xorW magnitude roundedE roundedF magBits product sumOf sum floor
 edges-hold = refl
+
+pub rounding-edges-hold : RoundingEdgesHold
+unfolding roundingEdges size magnitude roundedE roundedF magBits truncate nearest
+rounding-edges-hold = refl

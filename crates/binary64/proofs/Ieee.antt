@@ -26,7 +26,7 @@ use Rattle.binary64.proofs.SumCases.{sum-like, sum-greater, sum-less, s
 use Rattle.binary64.proofs.IeeeRound.{round-magBits}
 
 -- ---- reading an operand
-negative : ℕ → Bool
+pub negative : ℕ → Bool
 negative a = leb (top binary64) a
 
 fields-value : (s : Bool) (E F : ℕ) → ((E ≡ 0) × (F ≡ 0)) ⊎ ((1 ≤ E) × (E ≤ 2046)) → HasValue (ofFields binary64 s E F) s (magnitudeOf E F) (2 ^ low binary64)
@@ -39,7 +39,7 @@ fields-value s (suc e) F (inr h) =
     subst (λ (b : Bool). HasValue (cond b (cond (eqb F 0) (inf s) nan) (odd (prec binary64) s (hid binary64 + F) e (low binary64))) s ((2 ^ 52 + F) * 2 ^ e) (2 ^ low binary64)) (sym n)
     (odd-sign (prec binary64) s (hid binary64 + F) e (low binary64))
 
-value : (a : ℕ) → ZeroOrNormal a → HasValue (ofBits binary64 a) (negative a) (magnitude a) (2 ^ low binary64)
+pub value : (a : ℕ) → ZeroOrNormal a → HasValue (ofBits binary64 a) (negative a) (magnitude a) (2 ^ low binary64)
 unfolding ofBits magnitude negative
 value a h =
     subst (λ (E : ℕ). HasValue (ofFields binary64 (leb (top binary64) a) E (frac a)) (leb (top binary64) a) (magnitudeOf (expo a) (frac a)) (2 ^ low binary64)) (sym (field a))
@@ -49,10 +49,10 @@ value a h =
     field a = omega arith
 
 -- the sign as a Bool and as a number
-bit : Bool → ℕ
+pub bit : Bool → ℕ
 bit b = cond b 1 0
 
-negative-is : (a : ℕ) → a < 2 ^ 64 → sign a ≡ bit (negative a)
+pub negative-is : (a : ℕ) → a < 2 ^ 64 → sign a ≡ bit (negative a)
 unfolding negative bit
 negative-is a h =
     elim (lt-or-ge a (2 ^ 63)) [
@@ -148,7 +148,7 @@ add-value f (fin u m e) (fin w n g) s t a b c C h k =
     (mul-right-comm (n * up g) (down e) c ∙ ap (λ (z : ℕ). z * down e) (k .1) ∙ mul-assoc b (down g) (down e) ∙ ap (λ (z : ℕ). b * z) (mul-comm (down g) (down e)))
 
 -- M units of 2^-low
-round-52 : (s : Bool) (M : ℕ) → ZeroOrLarge 52 M → toBits binary64 (round binary64 s M (2 ^ low binary64)) ≡ signed (bit s) (magBits 52 M)
+pub round-52 : (s : Bool) (M : ℕ) → ZeroOrLarge 52 M → toBits binary64 (round binary64 s M (2 ^ low binary64)) ≡ signed (bit s) (magBits 52 M)
 round-52 s M h =
     ap (λ (d : ℕ). toBits binary64 (round binary64 s M d)) (sym (mul-one (2 ^ low binary64))) ∙ round-magBits s 0 M h ∙ ap (λ (x : ℕ). x + magBits 52 M) (top-is s)
 

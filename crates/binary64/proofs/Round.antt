@@ -1,14 +1,14 @@
 -- The rounding of a magnitude in one `min`, and at a given place of its top bit: what every proof about a result's bits goes by.
 -- Rests on Cases, Jam and lib.Ieee's bounds on digits.
-use mathlib.Core.Path.{_≡_, sym, ap, ap₂, _∙_, subst}
+use mathlib.Core.Path.{_≡_, refl, sym, ap, ap₂, _∙_, subst}
 use mathlib.Core.Logic.{inl, inr}
 use mathlib.Core.Bool.{cond}
 use Prim.Native.Nat.{ℕ, zero, suc, _+_, _-_, _*_, _/_, _%_, _^_, _≤_, _<_, min, compare, Ordering, Ordering·lt, Ordering·eq, Ordering·gt}
-use native.Mathlib.Nat.{mod-lt, div-add-mod', mul-comm, le-trans, le-of-eq, lt-of-lt-of-le, mul-assoc, mul-right-comm, suc-sub-suc, eq-or-lt-of-le, le-div-iff-mul-le, div-one, mod-one}
+use native.Mathlib.Nat.{mod-lt, div-add-mod', div-eq-of-lt, mul-add-div-right, add-assoc, le-trans, le-of-eq, lt-of-lt-of-le, mul-assoc, mul-right-comm, mul-le-mul-right, mul-lt-mul-of-pos-right, zero-add, suc-add, suc-sub-suc, eq-or-lt-of-le, le-div-iff-mul-le, div-one, mod-one}
 use native.Mathlib.Omega.{arith}
-use lib.Arith.{digits-lt}
+use lib.Arith.{digits-lt, digits-div}
 use lib.Dec.{ltb, eqb}
-use lib.Pow.{pow-pos, pow-add, pow-mono, shr-shr}
+use lib.Pow.{pow-pos, pow-add, pow-mono, mod-pow-add}
 use lib.Ieee.{size, nearest}
 use lib.Ieee.Digits.{size-reaches}
 use lib.Ieee.Fits.{kept-lt, nearest-le}
@@ -124,56 +124,78 @@ pub round-none : (N : ℕ) → roundNE N 0 ≡ N
 unfolding roundNE
 round-none N = ap₂ (λ (x y : ℕ). nearest x (compare (y * 2) 1)) (div-one N) (mod-one N)
 
--- ---- rounding by an addition: q whole units, a half b and a rest t below it make (2q + b + c) / 2, where c is set if q is odd or t is not zero
-halves : (q b t P : ℕ) → b < 2 → t < P → nearest q (compare ((b * P + t) * 2) (2 * P)) ≡ (2 * q + b + min (q % 2 + t) 1) / 2
-halves q zero t P hb ht = go (compare ((0 * P + t) * 2) (2 * P)) (cmp ((0 * P + t) * 2) (2 * P))
+-- so a number of 53 bits times 2^e is its own rounding
+pub bits-exact : (W e : ℕ) → 2 ^ 52 ≤ W → W < 2 ^ 53 → magBits 52 (W * 2 ^ e) ≡ packed e W
+bits-exact W e lo hi =
+    let s : 52 + e - 52 ≡ 0 + e = omega arith in
+    let top : W * 2 ^ e < 2 ^ suc (52 + e) = lt-of-lt-of-le (mul-lt-mul-of-pos-right hi (pow-pos e)) (le-of-eq (sym (pow-add 2 53 e) ∙ ap (λ (z : ℕ). 2 ^ z) (suc-add 52 e))) in
+    bits-over 52 (W * 2 ^ e) (52 + e) (omega arith) (le-trans (le-of-eq (pow-add 2 52 e)) (mul-le-mul-right (2 ^ e) lo)) top (omega arith)
+    ∙ ap₂ (λ (x y : ℕ). packed x (roundNE (W * 2 ^ e) y)) s s
+    ∙ ap₂ packed (zero-add e) (round-scale W e 0 ∙ round-none W)
+
+-- ---- ties: q whole units, the first bit b dropped and the rest t below it round up where b is set, and q is odd or t is not zero
+tie : (q b t P : ℕ) → b < 2 → t < P → nearest q (compare ((b * P + t) * 2) (2 * P)) ≡ q + b * min (q % 2 + t) 1
+tie q zero t P hb ht = go (compare ((0 * P + t) * 2) (2 * P)) (cmp ((0 * P + t) * 2) (2 * P))
   where
-    go : (o : Ordering) → Cmp o ((0 * P + t) * 2) (2 * P) → nearest q o ≡ (2 * q + 0 + min (q % 2 + t) 1) / 2
+    go : (o : Ordering) → Cmp o ((0 * P + t) * 2) (2 * P) → nearest q o ≡ q + 0 * min (q % 2 + t) 1
     go Ordering·lt h = omega arith
     go Ordering·eq h = absurd (omega arith)
     go Ordering·gt h = absurd (omega arith)
-halves q (suc zero) t P hb ht = go (compare ((1 * P + t) * 2) (2 * P)) (cmp ((1 * P + t) * 2) (2 * P))
+tie q (suc zero) t P hb ht = go (compare ((1 * P + t) * 2) (2 * P)) (cmp ((1 * P + t) * 2) (2 * P))
   where
-    go : (o : Ordering) → Cmp o ((1 * P + t) * 2) (2 * P) → nearest q o ≡ (2 * q + 1 + min (q % 2 + t) 1) / 2
+    go : (o : Ordering) → Cmp o ((1 * P + t) * 2) (2 * P) → nearest q o ≡ q + 1 * min (q % 2 + t) 1
     go Ordering·lt h = absurd (omega arith)
     go Ordering·eq h = omega arith
     go Ordering·gt h = omega arith
-halves q (suc (suc b)) t P hb ht = absurd (omega arith)
+tie q (suc (suc b)) t P hb ht = absurd (omega arith)
 
-pub round-carry : (N k : ℕ) → roundNE N (suc k) ≡ (N / 2 ^ k + min (N / 2 ^ k / 2 % 2 + N % 2 ^ k) 1) / 2
+-- N · 2^(k+1) + r · 2^k + s, with s below 2^k, rounded to a multiple of 2^(k+1)
+pub round-tie : (k N r s : ℕ) → r < 2 → s < 2 ^ k → roundNE (N * 2 ^ suc k + (r * 2 ^ k + s)) (suc k) ≡ N + r * min (N % 2 + s) 1
 unfolding roundNE
-round-carry N k =
-    let P = 2 ^ k in
-    let m = N / 2 ^ k in
-    let t = N % 2 ^ k in
-    let low : t < P = mod-lt N (pow-pos k) in
-    let pw : 2 ^ suc k ≡ 2 * 2 ^ k = omega arith in
-    let two : m / 2 * 2 + m % 2 ≡ m = div-add-mod' m 2 in
-    let e : N ≡ m / 2 * (2 * P) + (m % 2 * P + t) = sym (ap (λ (z : ℕ). z * P + t) two ∙ div-add-mod' N P) ∙ regroup (m / 2) (m % 2) P t in
-    ap₂ closest e pw
-    ∙ closest-by (m / 2) (m % 2 * P + t) (2 * P) (digits-lt (mod-lt m (omega arith)) low)
-    ∙ halves (m / 2) (m % 2) t P (mod-lt m (omega arith)) low
-    ∙ ap (λ (z : ℕ). (z + min (m / 2 % 2 + t) 1) / 2) (ap (λ (z : ℕ). z + m % 2) (mul-comm 2 (m / 2)) ∙ two)
-  where
-    regroup : (q b P t : ℕ) → (q * 2 + b) * P + t ≡ q * (2 * P) + (b * P + t)
-    regroup q b P t = omega arith
+round-tie k N r s hr hs =
+    let e : 2 ^ suc k ≡ 2 * 2 ^ k = omega arith in
+    ap (λ (b : ℕ). closest (N * b + (r * 2 ^ k + s)) b) e ∙ closest-by N (r * 2 ^ k + s) (2 * 2 ^ k) (digits-lt hr hs) ∙ tie N r s (2 ^ k) hr hs
 
--- eleven bits at once, on the rest as a whole
+-- the first of k + 1 low bits
+pub first-dropped : (N k : ℕ) → N % 2 ^ suc k ≡ N / 2 ^ k % 2 * 2 ^ k + N % 2 ^ k
+first-dropped N k = let e : suc k ≡ 1 + k = omega arith in ap (λ (z : ℕ). N % 2 ^ z) e ∙ mod-pow-add N 1 k
+
+-- the same by an addition, of half a unit less one and of l, the last bit kept: the carry out of the bits dropped
+half-carry : (b t l P : ℕ) → b < 2 → t < P → l < 2 → (b * P + t + (P - 1 + l)) / (2 * P) ≡ b * min (l + t) 1
+half-carry zero t l P hb ht hl = div-eq-of-lt (omega arith) ∙ omega arith
+half-carry (suc zero) t l P hb ht hl = go (l + t) refl
+  where
+    go : (m : ℕ) → l + t ≡ m → (1 * P + t + (P - 1 + l)) / (2 * P) ≡ 1 * min m 1
+    go zero e = div-eq-of-lt (omega arith)
+    go (suc m) e =
+        let s : 1 * P + t + (P - 1 + l) ≡ 1 * (2 * P) + m = omega arith in
+        ap (λ (z : ℕ). z / (2 * P)) s ∙ digits-div 1 (omega arith) ∙ omega arith
+half-carry (suc (suc b)) t l P hb ht hl = absurd (omega arith)
+
+pub half-added : (N k l : ℕ) → l < 2 → (N + (2 ^ k - 1 + l)) / 2 ^ suc k ≡ N / 2 ^ suc k + N / 2 ^ k % 2 * min (l + N % 2 ^ k) 1
+half-added N k l hl =
+    let P = 2 ^ suc k in
+    let h = 2 ^ k - 1 + l in
+    let pw : 2 ^ suc k ≡ 2 * 2 ^ k = omega arith in
+    let e : N + h ≡ N / P * P + (N % P + h) = ap (λ (z : ℕ). z + h) (sym (div-add-mod' N P)) ∙ add-assoc (N / P * P) (N % P) h in
+    ap (λ (z : ℕ). z / P) e ∙ mul-add-div-right (pow-pos (suc k)) (N / P) (N % P + h)
+    ∙ ap (λ (z : ℕ). N / P + z)
+    (ap₂ (λ (r p : ℕ). (r + h) / p) (first-dropped N k) pw ∙ half-carry (N / 2 ^ k % 2) (N % 2 ^ k) l (2 ^ k) (mod-lt (N / 2 ^ k) (omega arith)) (mod-lt N (pow-pos k)) hl)
+
+-- eleven bits at once
 pub round-11 : (N : ℕ) → roundNE N 11 ≡ N / 2048 + (N % 2048 + 1023 + N / 2048 % 2) / 2048
 round-11 N =
-    round-carry N 10
-    ∙ ap₂ (λ (m q : ℕ). (m + min (q % 2 + N % 1024) 1) / 2) (halved N) (shr-shr N 10 1)
-    ∙ linear (N / 2048) (N / 1024 % 2) (N % 1024) (N / 2048 % 2) (omega arith) (omega arith) (omega arith)
-    ∙ ap (λ (r : ℕ). N / 2048 + (r + 1023 + N / 2048 % 2) / 2048) (sym (rest N))
+    let l = N / 2048 % 2 in
+    let b = N / 1024 % 2 in
+    let t = N % 1024 in
+    ap (λ (z : ℕ). roundNE z 11) (parts N) ∙ round-tie 10 (N / 2048) b t (omega arith) (omega arith)
+    ∙ ap (λ (z : ℕ). N / 2048 + z) (sym (half-carry b t l 1024 (omega arith) (omega arith) (omega arith)) ∙ ap (λ (z : ℕ). z / 2048) (sum N))
   where
-    halved : (N : ℕ) → N / 1024 ≡ 2 * (N / 2048) + N / 1024 % 2
-    halved N = omega arith
+    parts : (N : ℕ) → N ≡ N / 2048 * 2048 + (N / 1024 % 2 * 1024 + N % 1024)
+    parts N = omega arith
 
-    rest : (N : ℕ) → N % 2048 ≡ N / 1024 % 2 * 1024 + N % 1024
-    rest N = omega arith
-
-    linear : (q b t p : ℕ) → b < 2 → t < 1024 → p < 2 → (2 * q + b + min (p + t) 1) / 2 ≡ q + (b * 1024 + t + 1023 + p) / 2048
-    linear q b t p hb ht hp = omega arith
+    sum : (N : ℕ) → N / 1024 % 2 * 1024 + N % 1024 + (1023 + N / 2048 % 2) ≡ N % 2048 + 1023 + N / 2048 % 2
+    sum N = omega arith
 
 -- a number with its top bit at 63 keeps 53 bits, or rounds to 2^53
 pub round-top : (N : ℕ) → 2 ^ 63 ≤ N → N < 2 ^ 64 → (2 ^ 52 ≤ roundNE N 11) × (roundNE N 11 ≤ 2 ^ 53)

@@ -1,20 +1,19 @@
--- The plain operations' results as the code selects them, without a branch, against the definitions' cases.
--- Rests on Encode, ProductModel, SumCases and FloorModel, which have the cases.
+-- The results of product and sum as the code selects them, without a branch, against the definitions' cases.
+-- Rests on Encode, ProductModel and SumCases, which have the cases.
 use mathlib.Core.Path.{_≡_, refl, sym, ap, ap₂, _∙_}
 use mathlib.Core.Bool.{Bool, true, false, not, cond}
 use mathlib.Core.Logic.{inl, inr}
-use Prim.Native.Nat.{ℕ, zero, suc, _+_, _-_, _*_, _/_, _%_, _^_, _≤_, _<_}
-use native.Mathlib.Nat.{mod-eq-of-lt, div-add-mod', mul-pos, le-of-eq, eq-zero-or-pos}
+use Prim.Native.Nat.{ℕ, zero, suc, _+_, _-_, _*_, _%_, _^_, _≤_, _<_}
+use native.Mathlib.Nat.{mod-eq-of-lt, mul-pos, le-of-eq, eq-zero-or-pos}
 use native.Mathlib.Omega.{arith}
-use lib.Bits.{bitAnd, bitOr, and-mask, or-shifted, or-zero-r}
+use lib.Bits.{bitOr, or-shifted, or-zero-r}
 use lib.Count.{leadingZeros, leading-top}
 use lib.Dec.{ltb, leb, eqb}
-use lib.Pow.{pow-pos, pow-mono, ones-split, ones-lt, high}
+use lib.Pow.{pow-pos}
 use Rattle.binary64.specs.Number.{sign, expo, frac, magnitude, signed}
 use Rattle.binary64.specs.Rounding.{magBits}
 use Rattle.binary64.specs.Sum.{sum}
-use Rattle.binary64.specs.Floor.{floor}
-use Rattle.binary64.specs.Steps.{roundNE, jam, packed, encodedAt, encoded, aligned, loweredBy}
+use Rattle.binary64.specs.Steps.{roundNE, jam, packed, encodedAt, encoded, aligned}
 use Rattle.binary64.proofs.Cases.{lt-or-ge, if-lt, if-not-lt, if-le, if-not-le, if-eq, if-not-eq, if-some, if-none, by-lt, by-eq}
 use Rattle.binary64.proofs.Selecting.{same-sign}
 use Rattle.binary64.proofs.Jam.{jam-pos}
@@ -22,7 +21,6 @@ use Rattle.binary64.proofs.Round.{round-top}
 use Rattle.binary64.proofs.Encode.{to-top, encoded-lt}
 use Rattle.binary64.proofs.ProductModel.{product-zero-l, product-zero-r, product-tiny, product-encoded}
 use Rattle.binary64.proofs.SumCases.{zeros-like, zeros-unlike, like-signs, differ, cancelled, unlike-signs, aligned-none}
-use Rattle.binary64.proofs.FloorModel.{floor-large, floor-small-plus, floor-small-minus, floor-plus, floor-minus}
 
 -- ---- rounding and packing
 packed-is : (E q : ℕ) → 2 ^ 52 ≤ q → q ≤ 2 ^ 53 → cond (ltb E 2046) (E * 2 ^ 52 + q) (2047 * 2 ^ 52) ≡ packed E q
@@ -135,52 +133,3 @@ module _ (a b : ℕ) (le : b % 2 ^ 63 ≤ a % 2 ^ 63) where
       let kK : k ≡ cond (not (eqb Z 0)) (sign a * 2 ^ 63) 0 = hk ∙ ap₂ (λ (z s : ℕ). cond (not (eqb z 0)) s 0) zZ hs in
       ap₂ bitOr (hr ∙ ap (λ (b : Bool). cond b s k) like ∙ ap₂ (cond (eqb (sign a) (sign b))) hs kK) (hv ∙ ap₂ (λ (z e : ℕ). cond (eqb z 0) 0 (encoded z e)) zZ he)
       ∙ sum-selected
-
--- ---- floor: d is E less 1023, modulo 2^64
--- the fraction's bits as a mask
-mask : (d : ℕ) → d ≤ 52 → (2 ^ 52 - 1) / 2 ^ (d % 64) ≡ 2 ^ (52 - d) - 1
-mask d h =
-    let w : 52 - d + d ≡ 52 = omega arith in
-    ap₂ (λ (n k : ℕ). (2 ^ n - 1) / 2 ^ k) (sym w) (mod-eq-of-lt (omega arith))
-    ∙ ap (λ (x : ℕ). x / 2 ^ d) (ones-split (52 - d) d)
-    ∙ high (2 ^ (52 - d) - 1) d (ones-lt d)
-
-without : (t k : ℕ) → t - bitAnd t (2 ^ k - 1) ≡ t / 2 ^ k * 2 ^ k
-without t k = ap (λ (x : ℕ). t - x) (and-mask t k) ∙ rest (t / 2 ^ k * 2 ^ k) (t % 2 ^ k) t (div-add-mod' t (2 ^ k))
-  where
-    rest : (x r t : ℕ) → x + r ≡ t → t - r ≡ x
-    rest x r t e = omega arith
-
-lowered : (a k : ℕ) → a + 2 ^ k < 2 ^ 64 → loweredBy (2 ^ k - 1) a ≡ cond (eqb (sign a) 0) (a / 2 ^ k * 2 ^ k) ((a + (2 ^ k - 1)) / 2 ^ k * 2 ^ k)
-unfolding loweredBy
-lowered a k h =
-    by-eq (λ (b : Bool). raised b - bitAnd (raised b) (2 ^ k - 1) ≡ cond b (a / 2 ^ k * 2 ^ k) ((a + (2 ^ k - 1)) / 2 ^ k * 2 ^ k)) (sign a) 0
-    (λ _. ap (λ (t : ℕ). t - bitAnd t (2 ^ k - 1)) (omega arith) ∙ without a k)
-    (λ _. ap (λ (t : ℕ). t - bitAnd t (2 ^ k - 1)) (mod-eq-of-lt (omega (arith, pow-pos k))) ∙ without (a + (2 ^ k - 1)) k)
-  where
-    raised : Bool → ℕ
-    raised b = (a + cond b 0 (2 ^ k - 1)) % 2 ^ 64
-
-pub floor-selected : (a d : ℕ) → a < 2 ^ 64 → d < 2 ^ 64 → (d + 1023) % 2 ^ 64 ≡ expo a
-    → cond (ltb d 52) (loweredBy ((2 ^ 52 - 1) / 2 ^ (d % 64)) a) (cond (ltb (expo a) 1023) (cond (eqb (sign a) 0) 0 0xBFF0000000000000) a) ≡ floor a
-floor-selected a d ha hd h =
-    elim (lt-or-ge (expo a) 1023) [
-      | inl l ↦
-          if-not-lt d 52 _ _ (omega arith) ∙ if-lt (expo a) 1023 _ a l
-          ∙ by-eq (λ (b : Bool). cond b 0 0xBFF0000000000000 ≡ floor a) (sign a) 0 (λ e. sym (floor-small-plus a l e)) (λ n. sym (floor-small-minus a l n))
-      | inr g ↦
-          elim (lt-or-ge (expo a) 1075) [
-            | inl l ↦
-                let k = 1075 - expo a in
-                let dk : 52 - d ≡ k = omega arith in
-                let room : 2 ^ k ≤ 2 ^ 52 = pow-mono {i = k} {j = 52} (omega arith) in
-                if-lt d 52 _ _ (omega arith)
-                ∙ ap (λ (f : ℕ). loweredBy f a) (mask d (omega arith) ∙ ap (λ (x : ℕ). 2 ^ x - 1) dk)
-                ∙ lowered a k (fits a (expo a) (2 ^ k) ha refl l room)
-                ∙ by-eq (λ (b : Bool). cond b (a / 2 ^ k * 2 ^ k) ((a + (2 ^ k - 1)) / 2 ^ k * 2 ^ k) ≡ floor a) (sign a) 0 (λ e. sym (floor-plus a g l e)) (λ n. sym (floor-minus a g l n))
-            | inr l ↦ if-not-lt d 52 _ _ (omega arith) ∙ if-not-lt (expo a) 1023 _ a g ∙ sym (floor-large a l)
-          ]
-    ]
-  where
-    fits : (a E p : ℕ) → a < 2 ^ 64 → E ≡ expo a → E < 1075 → p ≤ 2 ^ 52 → a + p < 2 ^ 64
-    fits a E p h e l q = omega arith

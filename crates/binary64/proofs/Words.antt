@@ -1,11 +1,11 @@
--- Shifts, masks and signs as the plain code writes them, in numbers.
+-- Shifts, masks and signs as the plain code writes them, in numbers, and a word's magnitude by its exponent.
 use mathlib.Core.Path.{_≡_, sym, ap, _∙_, subst}
 use mathlib.Core.Logic.{_⊎_, inl, inr}
-use Prim.Native.Nat.{ℕ, suc, _+_, _-_, _*_, _/_, _%_, _^_, _≤_, _<_}
-use native.Mathlib.Nat.{mod-eq-of-lt, lt-of-le-of-lt, div-mul-le-self, div-add-mod'}
+use Prim.Native.Nat.{ℕ, zero, suc, _+_, _-_, _*_, _/_, _%_, _^_, _≤_, _<_}
+use native.Mathlib.Nat.{le-trans, le-of-eq, lt-of-lt-of-le, mul-lt-mul-of-pos-right, mod-eq-of-lt, lt-of-le-of-lt, div-mul-le-self, div-add-mod'}
 use native.Mathlib.Omega.{arith}
-use lib.Pow.{shl-exact}
-use Rattle.binary64.specs.Number.{sign}
+use lib.Pow.{pow-pos, pow-add, pow-mono, shl-exact}
+use Rattle.binary64.specs.Number.{sign, expo, frac, magnitudeOf, magnitude}
 
 -- `(w >> k) << k`: a word without its low k bits
 pub cleared : (w k : ℕ) → w < 2 ^ 64 → ((w / 2 ^ k * 2 ^ k) % 2 ^ 64 ≡ w / 2 ^ k * 2 ^ k) × ((w / 2 ^ k * 2 ^ k) % 2 ^ 64 ≤ w)
@@ -29,5 +29,21 @@ pub sign-cases : (a : ℕ) → a < 2 ^ 64 → (sign a ≡ 0) ⊎ (sign a ≡ 1)
 sign-cases a h = go (sign a) (omega arith)
   where
     go : (s : ℕ) → s < 2 → (s ≡ 0) ⊎ (s ≡ 1)
-    go Prim.Native.Nat.zero l = inl (omega arith)
+    go zero l = inl (omega arith)
     go (suc s) l = inr (omega arith)
+
+-- the magnitude of a word that is no zero
+pub magnitude-is : (a e : ℕ) → expo a ≡ suc e → magnitude a ≡ (2 ^ 52 + frac a) * 2 ^ e
+unfolding magnitude
+magnitude-is a e q = ap (λ (E : ℕ). magnitudeOf E (frac a)) q
+
+-- a magnitude is below the power of two at which the next exponent begins, and so below those of all larger exponents
+pub magnitude-below : (a p : ℕ) → expo a < p → magnitude a < 2 ^ (51 + p)
+unfolding magnitude
+magnitude-below a p h = go (expo a) h
+  where
+    go : (E : ℕ) → E < p → magnitudeOf E (frac a) < 2 ^ (51 + p)
+    go zero h = pow-pos (51 + p)
+    go (suc e) h =
+        let x : 2 ^ 52 + frac a < 2 ^ 53 = omega arith in
+        lt-of-lt-of-le (mul-lt-mul-of-pos-right x (pow-pos e)) (le-trans (le-of-eq (sym (pow-add 2 53 e))) (pow-mono {i = 53 + e} {j = 51 + p} (omega arith)))

@@ -1,13 +1,15 @@
--- Document 01's sentences on zeros, underflow, cancellation, floor's outer ranges and E = 2047, as statements: `corners` proves them together.
+-- Document 01's sentences, and those of document 02, No. 1, on zeros, underflow, cancellation, the roundings' outer ranges and E = 2047, as statements: `corners` proves them together.
 -- Magnitudes are in units of 2^-1074, so 2^-1022 is 2^52 of them; a product's are in units of 2^-2148, so 2^-1022 is 2^1126.
 use mathlib.Core.Path.{_≡_}
-use Prim.Native.Nat.{ℕ, _+_, _-_, _*_, _^_, _≤_, _<_}
+use Prim.Native.Nat.{ℕ, _+_, _-_, _*_, _^_, _≤_, _<_, min}
 use Rattle.bits.specs.Ops.{xorW}
 use Rattle.binary64.specs.Number.{sign, expo, frac, magnitude, signed}
 use Rattle.binary64.specs.Rounding.{roundedE, roundedF, limited}
 use Rattle.binary64.specs.Product.{product}
 use Rattle.binary64.specs.Sum.{sum}
 use Rattle.binary64.specs.Floor.{floor}
+use Rattle.binary64.specs.Truncate.{truncate}
+use Rattle.binary64.specs.Nearest.{nearest}
 
 pub record Corners : Type 0 where
   -- "E = 0 reads as a zero of sign s, whatever F."
@@ -37,6 +39,14 @@ pub record Corners : Type 0 where
   -- "E < 1023 gives plus zero for s = 0 and −1 for s = 1, minus zero among them."
   pub floor-small-plus : (a : ℕ) → expo a < 1023 → sign a ≡ 0 → floor a ≡ 0
   pub floor-small-minus : (a : ℕ) → expo a < 1023 → sign a ≡ 1 → floor a ≡ 0xBFF0000000000000
+  -- document 02, No. 1: "E of 1075 or more returns the operand."
+  pub truncate-large : (a : ℕ) → 1075 ≤ expo a → truncate a ≡ a
+  pub nearest-large : (a : ℕ) → 1075 ≤ expo a → nearest a ≡ a
+  -- "E = 0 keeps its sign as a zero", and "both keep the sign": so does every operand whose whole number is 0
+  pub truncate-small : (a : ℕ) → expo a < 1023 → truncate a ≡ signed (sign a) 0
+  pub nearest-small : (a : ℕ) → expo a < 1022 → nearest a ≡ signed (sign a) 0
+  -- from a half on, below 1: "a tie to the even whole number", which is 0, at F = 0; else 1, whose bits are 1023 · 2^52
+  pub nearest-half : (a : ℕ) → expo a ≡ 1022 → nearest a ≡ signed (sign a) (min (frac a) 1 * (1023 * 2 ^ 52))
   -- ".. E = 2047 included": where IEEE 754 has NaN and infinities, operands here are numbers
   pub no-nan : sum 0x7FF8000000000000 0 ≡ 0x7FF0000000000000
   pub no-infinity : sum 0x7FF0000000000000 0xFFF0000000000000 ≡ 0

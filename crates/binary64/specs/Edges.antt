@@ -1,10 +1,11 @@
--- Document 01, "Operands at the edges": the table, row by row. A floor has one operand; its second is not used.
+-- Document 01, "Operands at the edges": the table, row by row; and one of the same kind for truncation and nearest. An operation with one operand does not
+-- use the second.
 use mathlib.Core.Path.{_≡_}
 use mathlib.Core.Bool.{Bool, true, _&&_}
 use mathlib.Core.List.{List, [], _∷_}
 use Prim.Native.Nat.{ℕ}
 use lib.Dec.{eqb}
-use Rattle.binary64.specs.Operations.{Operation, Product, Sum, Floor, onWords}
+use Rattle.binary64.specs.Operations.{Operation, Product, Sum, Floor, Truncate, Nearest, onWords}
 
 pub record Row : Type 0 where
   pub op : Operation
@@ -32,6 +33,50 @@ edges =
     ∷ edge Floor 0x4330000000000001 0 0x4330000000000001
     ∷ []
 
+-- 0.5, 1.5, 2.5 and the same below zero; the largest number below 0.5 and, below zero, the next beyond it; 3, and 3.7; with E = 1074 2^52 − 0.5 of both signs and
+-- 2^51 + 0.5, with E = 1075 the next number after 2^52; minus zero, E = 0 with F ≠ 0, and E = 2047. 2^52 + 0.5 is no binary64 number: from 2^52 on all are whole.
+unfoldable pub roundingEdges : List Row
+roundingEdges =
+    edge Truncate 0x3FE0000000000000 0 0
+    ∷ edge Nearest 0x3FE0000000000000 0 0
+    ∷ edge Truncate 0x3FF8000000000000 0 0x3FF0000000000000
+    ∷ edge Nearest 0x3FF8000000000000 0 0x4000000000000000
+    ∷ edge Truncate 0x4004000000000000 0 0x4000000000000000
+    ∷ edge Nearest 0x4004000000000000 0 0x4000000000000000
+    ∷ edge Truncate 0xBFE0000000000000 0 0x8000000000000000
+    ∷ edge Nearest 0xBFE0000000000000 0 0x8000000000000000
+    ∷ edge Truncate 0xBFF8000000000000 0 0xBFF0000000000000
+    ∷ edge Nearest 0xBFF8000000000000 0 0xC000000000000000
+    ∷ edge Truncate 0xC004000000000000 0 0xC000000000000000
+    ∷ edge Nearest 0xC004000000000000 0 0xC000000000000000
+    ∷ edge Truncate 0x3FDFFFFFFFFFFFFF 0 0
+    ∷ edge Nearest 0x3FDFFFFFFFFFFFFF 0 0
+    ∷ edge Truncate 0xBFE0000000000001 0 0x8000000000000000
+    ∷ edge Nearest 0xBFE0000000000001 0 0xBFF0000000000000
+    ∷ edge Truncate 0x4008000000000000 0 0x4008000000000000
+    ∷ edge Nearest 0x4008000000000000 0 0x4008000000000000
+    ∷ edge Truncate 0x400D99999999999A 0 0x4008000000000000
+    ∷ edge Nearest 0x400D99999999999A 0 0x4010000000000000
+    ∷ edge Truncate 0x432FFFFFFFFFFFFF 0 0x432FFFFFFFFFFFFE
+    ∷ edge Nearest 0x432FFFFFFFFFFFFF 0 0x4330000000000000
+    ∷ edge Truncate 0xC32FFFFFFFFFFFFF 0 0xC32FFFFFFFFFFFFE
+    ∷ edge Nearest 0xC32FFFFFFFFFFFFF 0 0xC330000000000000
+    ∷ edge Truncate 0x4320000000000001 0 0x4320000000000000
+    ∷ edge Nearest 0x4320000000000001 0 0x4320000000000000
+    ∷ edge Truncate 0x4330000000000001 0 0x4330000000000001
+    ∷ edge Nearest 0x4330000000000001 0 0x4330000000000001
+    ∷ edge Truncate 0x8000000000000000 0 0x8000000000000000
+    ∷ edge Nearest 0x8000000000000000 0 0x8000000000000000
+    ∷ edge Truncate 0x0000000000000001 0 0
+    ∷ edge Nearest 0x0000000000000001 0 0
+    ∷ edge Truncate 0x800FFFFFFFFFFFFF 0 0x8000000000000000
+    ∷ edge Nearest 0x800FFFFFFFFFFFFF 0 0x8000000000000000
+    ∷ edge Truncate 0x7FF8000000000001 0 0x7FF8000000000001
+    ∷ edge Nearest 0x7FF8000000000001 0 0x7FF8000000000001
+    ∷ edge Truncate 0xFFF0000000000000 0 0xFFF0000000000000
+    ∷ edge Nearest 0xFFF0000000000000 0 0xFFF0000000000000
+    ∷ []
+
 -- every row of a table holds
 abbrev pub allHold : List Row → Bool
 allHold [] = true
@@ -40,3 +85,6 @@ allHold (r ∷ rs) = eqb (onWords (r .op) (r .a) (r .b)) (r .result) && allHold 
 -- "Proved together in one table"
 abbrev pub EdgesHold : Type 0
 EdgesHold = allHold edges ≡ true
+
+abbrev pub RoundingEdgesHold : Type 0
+RoundingEdgesHold = allHold roundingEdges ≡ true

@@ -1,9 +1,9 @@
 -- The floor of a word as a number: document 01, "Reading and rounding numbers".
 use mathlib.Core.Bool.{cond}
-use Prim.Native.Nat.{ℕ, _+_, _*_, _/_, _%_, _^_, min}
+use Prim.Native.Nat.{ℕ, _+_, _/_, _%_, _^_, min}
 use lib.Dec.{ltb, leb, eqb}
-use Rattle.binary64.specs.Number.{sign, expo, magnitude, signed}
-use Rattle.binary64.specs.Rounding.{magBits}
+use Rattle.binary64.specs.Number.{sign, expo, magnitude}
+use Rattle.binary64.specs.Whole.{wholeNumber}
 
 -- "the greatest whole number not above the operand": its magnitude, for a sign s and a magnitude m in units of which 2^p make 1.
 -- Below zero that is the least whole number not below m.
@@ -11,9 +11,8 @@ abbrev pub wholeOf : ℕ → ℕ → ℕ → ℕ
 wholeOf p s m = cond (eqb s 0) (m / 2 ^ p) (m / 2 ^ p + min (m % 2 ^ p) 1)
 
 -- "E ≥ 1075 returns the operand. E < 1023 gives plus zero for s = 0 and −1 for s = 1, minus zero among them. Between, .."
--- A whole number here has at most 53 significant bits, so that `magBits` gives it as it is: `FloorMeans`, in Meaning, says that the result reads as that number.
 unfoldable pub floor : ℕ → ℕ
 floor a =
     cond (leb 1075 (expo a)) a
     (cond (ltb (expo a) 1023) (cond (eqb (sign a) 0) 0 0xBFF0000000000000)
-    (signed (sign a) (magBits 52 (wholeOf 1074 (sign a) (magnitude a) * 2 ^ 1074))))
+    (wholeNumber (sign a) (wholeOf 1074 (sign a) (magnitude a))))

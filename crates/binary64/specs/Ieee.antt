@@ -6,15 +6,19 @@
 --   or, if it is a product just below 2^-1022, to that least normal number (0010000000000001 times 3FEFFFFFFFFFFFFE; 001FFFFFFFFFFFFF times 3FE0000000000000).
 -- - An operand with E = 2047 is a number here, an infinity or NaN there.
 -- - The floor of minus zero is -1 here, minus zero there. Floor has no statement in this file: Meaning says what it is.
+-- Truncation and nearest agree for every zero and normal operand.
 use mathlib.Core.Path.{_≡_}
 use mathlib.Core.Logic.{_⊎_}
 use mathlib.Core.Bool.{cond}
-use Prim.Native.Nat.{ℕ, _+_, _-_, _*_, _^_, _≤_, _<_}
+use Prim.Native.Nat.{ℕ, _+_, _-_, _*_, _/_, _^_, _≤_, _<_}
 use lib.Dec.{eqb}
-use lib.Ieee.{binary64, ofBits, toBits, mul, add}
+use lib.Ieee.{Float, nan, inf, fin, binary64, up, down, round, ofBits, toBits, mul, add}
+use lib.Ieee.Nearest.{closest}
 use Rattle.binary64.specs.Number.{sign, expo, frac, magnitude}
 use Rattle.binary64.specs.Product.{product}
 use Rattle.binary64.specs.Sum.{sum}
+use Rattle.binary64.specs.Truncate.{truncate}
+use Rattle.binary64.specs.Nearest.{nearest}
 
 -- an operand that both read alike: a zero, or a normal number
 abbrev pub ZeroOrNormal : ℕ → Type 0
@@ -37,3 +41,24 @@ abbrev pub SumIsIeee : Type 0
 SumIsIeee =
     (a b : ℕ) → a < 2 ^ 64 → b < 2 ^ 64 → ZeroOrNormal a → ZeroOrNormal b → ZeroOrLarge 52 (exactSum a b)
     → sum a b ≡ toBits binary64 (add binary64 (ofBits binary64 a) (ofBits binary64 b))
+
+-- IEEE 754's round-to-integral operations, which the library does not have, from the text of 754-2019: a number becomes the integral value that the rule chooses for
+-- its magnitude, m · 2^e, which is the quotient of m * up e by down e (5.9), with the operand's sign where that is a zero too (6.3); an infinity comes back as it is and a NaN
+-- stays one.
+abbrev pub roundToIntegral : (ℕ → ℕ → ℕ) → Float → Float
+roundToIntegral rule nan = nan
+roundToIntegral rule (inf s) = inf s
+roundToIntegral rule (fin s m e) = round binary64 s (rule (m * up e) (down e)) 1
+
+-- roundToIntegralTowardZero's rule and roundToIntegralTiesToEven's
+abbrev pub towardZero : ℕ → ℕ → ℕ
+towardZero a b = a / b
+
+abbrev pub tiesToEven : ℕ → ℕ → ℕ
+tiesToEven a b = closest a b
+
+abbrev pub TruncateIsIeee : Type 0
+TruncateIsIeee = (a : ℕ) → a < 2 ^ 64 → ZeroOrNormal a → truncate a ≡ toBits binary64 (roundToIntegral towardZero (ofBits binary64 a))
+
+abbrev pub NearestIsIeee : Type 0
+NearestIsIeee = (a : ℕ) → a < 2 ^ 64 → ZeroOrNormal a → nearest a ≡ toBits binary64 (roundToIntegral tiesToEven (ofBits binary64 a))

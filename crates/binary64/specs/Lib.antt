@@ -1,13 +1,16 @@
--- Document 01's numbers: what a word stands for (Number), rounding (Rounding), the three operations and their list (Operations), and the
+-- Document 01's numbers: what a word stands for (Number), rounding (Rounding), whole numbers (Whole), the operations and their list (Operations), and the
 -- table of edges.
--- Statements about them: that rounding and floor mean what the paper says (Meaning), its sentences on zeros, underflow, cancellation and E = 2047 (Corners),
--- and where product and sum are IEEE 754's (Ieee).
+-- Statements about them: what dropping low bits does to a number (Whole), that rounding and the whole numbers mean what the paper says (Meaning), its
+-- sentences on zeros, underflow, cancellation and E = 2047 (Corners), and where the operations are IEEE 754's (Ieee).
 -- Steps has names for intermediate numbers only.
 pub mod Number
 pub mod Rounding
 pub mod Product
 pub mod Sum
+pub mod Whole
 pub mod Floor
+pub mod Truncate
+pub mod Nearest
 pub mod Operations
 pub mod Meaning
 pub mod Corners

@@ -1,10 +1,13 @@
--- The definitions mean what document 01 says: rounding is to the nearest with ties to even, and floor is the greatest whole number not above. As statements.
+-- The definitions mean what documents 01 and 02 say: rounding is to the nearest with ties to even, and floor, truncation and nearest are the
+-- whole numbers that they are said to be. As statements.
 use mathlib.Core.Path.{_≡_}
 use Prim.Native.Nat.{ℕ, suc, _+_, _-_, _*_, _%_, _^_, _≤_, _<_}
 use lib.Ieee.{size}
 use Rattle.binary64.specs.Number.{sign, magnitude}
 use Rattle.binary64.specs.Rounding.{roundedSignificand, magBits}
 use Rattle.binary64.specs.Floor.{floor}
+use Rattle.binary64.specs.Truncate.{truncate}
+use Rattle.binary64.specs.Nearest.{nearest}
 
 abbrev pub distance : ℕ → ℕ → ℕ
 distance a b = (a - b) + (b - a)
@@ -45,3 +48,26 @@ abbrev pub FloorMinusZero : Type 0
 FloorMinusZero =
     (sign 0xBFF0000000000000 ≡ 1) × (magnitude 0xBFF0000000000000 ≡ 1 * 2 ^ 1074)
     × ((a : ℕ) → a < 2 ^ 64 → sign a ≡ 1 → magnitude a ≡ 0 → floor a ≡ 0xBFF0000000000000)
+
+-- r is the whole number of a's sign whose magnitude, `whole`, is the greatest not above a's
+pub record WholePart (a r : ℕ) : Type 0 where
+  pub whole : ℕ
+  pub reads : magnitude r ≡ whole * 2 ^ 1074
+  pub sign-kept : sign r ≡ sign a
+  pub not-above : whole * 2 ^ 1074 ≤ magnitude a
+  pub greatest : magnitude a < suc whole * 2 ^ 1074
+
+-- "Truncation drops the fraction", for every operand
+abbrev pub TruncateMeans : Type 0
+TruncateMeans = (a : ℕ) → a < 2 ^ 64 → WholePart a (truncate a)
+
+-- r is the whole number of a's sign whose magnitude, `whole`, is nearest to a's, a tie to the even one
+pub record NearestWhole (a r : ℕ) : Type 0 where
+  pub whole : ℕ
+  pub reads : magnitude r ≡ whole * 2 ^ 1074
+  pub sign-kept : sign r ≡ sign a
+  pub nearest-even : NearestEven (magnitude a) 1074 whole
+
+-- "nearest takes a tie to the even whole number", for every operand
+abbrev pub NearestMeans : Type 0
+NearestMeans = (a : ℕ) → a < 2 ^ 64 → NearestWhole a (nearest a)

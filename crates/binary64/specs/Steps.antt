@@ -1,7 +1,8 @@
--- Names for the intermediate numbers of the plain operations. Contracts of inner functions and the lemmas cite them, no public contract does:
+-- Names for the intermediate numbers of the plain operations. Contracts of inner functions and the lemmas cite them, no call of the library does:
 -- nothing here has to be believed.
+use mathlib.Core.Path.{_≡_}
 use mathlib.Core.Bool.{cond}
-use Prim.Native.Nat.{ℕ, zero, suc, _+_, _-_, _*_, _/_, _%_, _^_, min}
+use Prim.Native.Nat.{ℕ, zero, suc, _+_, _-_, _*_, _/_, _%_, _^_, _≤_, _<_, min}
 use lib.Count.{leadingZeros}
 use lib.Bits.{bitAnd}
 use lib.Dec.{ltb, eqb}
@@ -35,6 +36,13 @@ alignedOf d (suc e) F = jam d ((2 ^ 52 + F) * 2 ^ 9)
 
 unfoldable pub aligned : ℕ → ℕ → ℕ
 aligned d b = alignedOf d (expo b) (frac b)
+
+-- where a has a whole part and may have a fraction: f is the mask of the fraction's bits, l the last bit of the whole part
+abbrev pub FractionOf : ℕ → ℕ → Type 0
+FractionOf a f = 1023 ≤ expo a → expo a < 1075 → f ≡ 2 ^ (1075 - expo a) - 1
+
+abbrev pub LastWholeOf : ℕ → ℕ → Type 0
+LastWholeOf a l = 1023 ≤ expo a → expo a < 1075 → l ≡ a / 2 ^ (1075 - expo a) % 2
 
 -- a raised by f where its sign is set, modulo 2^64, and then without the bits of f
 abbrev pub raisedBy : ℕ → ℕ → ℕ

@@ -1,4 +1,4 @@
-// Product, sum and floor of 64-bit words as document 01's numbers, on plain words.
+// Product, sum, floor, truncation and nearest of 64-bit words as document 01's numbers, on plain words.
 // Each is proved equal to its definition in specs/; none is ever turned down, and none branches on its operands (tests/constant_time).
 mod add;
 mod fields;
@@ -11,8 +11,10 @@ use crate::select::choose;
 use crate::select::kept;
 ghost use mathlib.Core.Path.{_≡_};
 ghost use Rattle.binary64.specs.Floor.{floor};
+ghost use Rattle.binary64.specs.Nearest.{nearest};
 ghost use Rattle.binary64.specs.Product.{product};
 ghost use Rattle.binary64.specs.Sum.{sum};
+ghost use Rattle.binary64.specs.Truncate.{truncate};
 
 // The product, rounded.
 pub fn product(a: u64, b: u64) -> u64
@@ -29,13 +31,33 @@ pub fn sum(a: u64, b: u64) -> u64
     add::ordered(choose(less, b, a), choose(less, a, b))
 }
 
-// The greatest whole number not above the operand; -1 for minus zero. E from 1023 to 1074, which is d below 52, has a fraction to be cleared.
+// The greatest whole number not above the operand; -1 for minus zero.
 pub fn floor(a: u64) -> u64
     ensures { λ r. ⌜ r ≡ floor a ⌝ }
 {
-    let e = fields::exponent(a);
-    let d = std::num::wrapping_sub_u64(e, 1023);
-    let lowered = whole::lower(a, whole::fraction(d));
+    let lowered = whole::lower(a, whole::fraction(a));
     let small = kept(fields::sign_bit(a) != 0, 0xbff0_0000_0000_0000);
-    choose(d < 52, lowered, choose(e < 1023, small, a))
+    whole::by_range(a, small, lowered)
+}
+
+// The whole part, with the operand's sign.
+pub fn truncate(a: u64) -> u64
+    ensures { λ r. ⌜ r ≡ truncate a ⌝ }
+{
+    let part = whole::cleared(a, whole::fraction(a));
+    let small = fields::sign_bit(a);
+    whole::by_range(a, small, part)
+}
+
+// The nearest whole number, a tie to the even one, with the operand's sign. With k bits of fraction 2^(k-1) - 1 is added, and one more
+// where the whole part is odd, before the fraction is cleared. Below 1 in magnitude, what is above a half becomes 1.
+pub fn nearest(a: u64) -> u64
+    ensures { λ r. ⌜ r ≡ nearest a ⌝ }
+{
+    let f = whole::fraction(a);
+    let raised = std::num::wrapping_add_u64(a, (f >> 1) + whole::last_whole(a));
+    let rounded = whole::cleared(raised, f);
+    let above = 0x3fe0_0000_0000_0000 < (a & 0x7fff_ffff_ffff_ffff);
+    let small = fields::sign_bit(a) | kept(above, 0x3ff0_0000_0000_0000);
+    whole::by_range(a, small, rounded)
 }

@@ -15,7 +15,7 @@ pub fn sticky(x: u64) -> u64
 }
 
 // z / 2^11 to the nearest whole number, ties to even: half of 2^11 less one is added, and one more where the quotient is odd.
-fn nearest(z: u64) -> u64
+fn rounded(z: u64) -> u64
     ensures { λ r. ⌜ r ≡ roundNE z 11 ⌝ }
 {
     let q = z >> 11;
@@ -42,7 +42,7 @@ pub fn encode(z: u64, e: u64) -> u64
     let places = u64::leading_zeros(z) as u64;
     let bits = pack(
         std::num::wrapping_sub_u64(e, places),
-        nearest(z << (places % 64)),
+        rounded(z << (places % 64)),
     );
     kept(z != 0, kept(places <= e, bits))
 }

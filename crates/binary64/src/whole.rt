@@ -1,21 +1,49 @@
-// A word with its fraction bits cleared.
+// Rounding a word to a whole number: by the range of its E, and its fraction bits.
+use crate::fields::exponent;
 use crate::fields::sign_bit;
+use crate::select::choose;
 use crate::select::kept;
 ghost use mathlib.Core.Path.{_≡_};
-ghost use Prim.Native.Nat.{_-_, _/_, _%_, _^_};
-ghost use Rattle.binary64.specs.Steps.{loweredBy};
+ghost use mathlib.Core.Bool.{cond};
+ghost use Prim.Native.Nat.{_-_, _<_};
+ghost use lib.Bits.{bitAnd};
+ghost use lib.Dec.{ltb};
+ghost use Rattle.binary64.specs.Number.{expo};
+ghost use Rattle.binary64.specs.Steps.{loweredBy, FractionOf, LastWholeOf};
 
-// The bits of the fraction of a number with E = 1023 + d, d up to 52.
-pub fn fraction(d: u64) -> u64
-    ensures { λ r. ⌜ r ≡ (2 ^ 52 - 1) / 2 ^ (d % 64) ⌝ }
+// What is taken for a: `small` below 1, `between` below 2^52, and from there on, where every number is whole, a itself.
+pub fn by_range(a: u64, small: u64, between: u64) -> u64
+    ensures { λ r. ⌜ r ≡ cond (ltb (expo a) 1023) small (cond (ltb (expo a) 1075) between a) ⌝ }
 {
-    0xf_ffff_ffff_ffff >> (d % 64)
+    let e = exponent(a);
+    choose(e < 1023, small, choose(e < 1075, between, a))
+}
+
+// The bits of a's fraction, as a mask, where E is 1023 to 1074: E + 1 is E - 1023 modulo 64.
+pub fn fraction(a: u64) -> u64
+    ensures { λ r. ⌜ FractionOf a r ⌝ }
+{
+    0xf_ffff_ffff_ffff >> ((exponent(a) + 1) % 64)
+}
+
+// The last bit of a's whole part, where E is 1023 to 1074: it stands above the fraction's, at place 1075 - E, and is brought to the top by E + 12, which is
+// E - 1012 modulo 64, and down. Not by one shift and a mask: the compiler makes a test of one bit of that (bt), which memcheck takes for an address.
+pub fn last_whole(a: u64) -> u64
+    ensures { λ r. ⌜ (r < 2) × LastWholeOf a r ⌝ }
+{
+    (a << ((exponent(a) + 12) % 64)) >> 63
+}
+
+// t without the bits of the mask f.
+pub fn cleared(t: u64, f: u64) -> u64
+    ensures { λ r. ⌜ r ≡ t - bitAnd t f ⌝ }
+{
+    t - (t & f)
 }
 
 // The bits of the mask f cleared, once a negative number is raised by f, which carries into its whole part where a bit of the fraction is set.
 pub fn lower(a: u64, f: u64) -> u64
     ensures { λ r. ⌜ r ≡ loweredBy f a ⌝ }
 {
-    let raised = std::num::wrapping_add_u64(a, kept(sign_bit(a) != 0, f));
-    raised - (raised & f)
+    cleared(std::num::wrapping_add_u64(a, kept(sign_bit(a) != 0, f)), f)
 }

@@ -1,7 +1,7 @@
 -- Word operations digit by digit: the halves and lowest digits of XOR and AND, and that these two make a number.
 -- Rests on lib.Bits's step laws.
-use mathlib.Core.Path.{_≡_, ap, _∙_}
-use Prim.Native.Nat.{ℕ, zero, suc, _/_, _%_, _^_, _<_, min}
+use mathlib.Core.Path.{_≡_, refl, ap, _∙_}
+use Prim.Native.Nat.{ℕ, zero, suc, _-_, _/_, _%_, _^_, _<_, min, max}
 use native.Mathlib.Nat.{mod-lt, le-of-suc-le-suc, not-suc-le-zero, zero-lt-suc}
 use native.Mathlib.Omega.{arith}
 use lib.Arith.{digits-div, digits-mod}
@@ -28,6 +28,18 @@ digits3 f g p₀ p₁ p₂ p₃ p₄ p₅ p₆ p₇ a b c =
     two : (x : ℕ) → f x 0 0 ≡ g x 0 0 → f x 0 1 ≡ g x 0 1 → f x 1 0 ≡ g x 1 0 → f x 1 1 ≡ g x 1 1 → f x (b % 2) (c % 2) ≡ g x (b % 2) (c % 2)
     two x q₀ q₁ q₂ q₃ =
         digit (λ y. f x y (c % 2) ≡ g x y (c % 2)) (digit (λ z. f x 0 z ≡ g x 0 z) q₀ q₁ _ (bit-lt c)) (digit (λ z. f x 1 z ≡ g x 1 z) q₂ q₃ _ (bit-lt c)) _ (bit-lt b)
+
+-- and one of two digits likewise
+pub digits2 : (f g : ℕ → ℕ → ℕ) → f 0 0 ≡ g 0 0 → f 0 1 ≡ g 0 1 → f 1 0 ≡ g 1 0 → f 1 1 ≡ g 1 1 → (a b : ℕ) → f (a % 2) (b % 2) ≡ g (a % 2) (b % 2)
+digits2 f g p₀ p₁ p₂ p₃ a b = digits3 (λ x y z. f x y) (λ x y z. g x y) p₀ p₀ p₁ p₁ p₂ p₂ p₃ p₃ a b 0
+
+pub differ-zero : (x : ℕ) → differ x 0 ≡ x
+differ-zero zero = refl
+differ-zero (suc x) = refl
+
+-- XOR with what AND with NOT leaves is OR
+pub or-digit : (a b : ℕ) → differ (a % 2) (min (1 - a % 2) (b % 2)) ≡ max (a % 2) (b % 2)
+or-digit = digits2 (λ x y. differ x (min (1 - x) y)) max refl refl refl refl
 
 differ-lt : (x y : ℕ) → differ (x % 2) (y % 2) < 2
 differ-lt x y =

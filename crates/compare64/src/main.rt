@@ -1,5 +1,5 @@
-// The plain operations against the machine's own binary64, over edges and at random, where document 01 and IEEE 754 agree, and against
-// document 01's own words where it departs from IEEE 754. Writes how many pairs agree, how many are such, how many have an operand that the
+// The plain operations against the machine's own binary64, over edges and at random, where the documents and IEEE 754 agree, and against
+// their own words where they depart from IEEE 754. Writes how many pairs agree, how many are such, how many have an operand that the
 // two read apart and were skipped, and how many differ from what they should be.
 mod native;
 mod operands;
@@ -11,6 +11,10 @@ const PRODUCT: u64 = 0;
 const SUM: u64 = 1;
 
 const FLOOR: u64 = 2;
+
+const TRUNCATE: u64 = 3;
+
+const NEAREST: u64 = 4;
 
 // Pairs for each operation: those at edges, and 1,600,000 at random.
 const PAIRS: u64 = 1655040;
@@ -36,14 +40,24 @@ fn noted(t: Tally, outcome: u64) -> Tally {
     }
 }
 
+// What the comparison finds for an operation on a pair; the operations from floor on take its first alone.
 fn outcome(op: u64, a: u64, b: u64) -> u64 {
-    if op == PRODUCT {
-        return native::product(a, b);
+    match op {
+        PRODUCT => native::product(a, b),
+        SUM => native::sum(a, b),
+        FLOOR => native::floor(a),
+        TRUNCATE => native::truncate(a),
+        _ => native::nearest(a),
     }
-    if op == SUM {
-        return native::sum(a, b);
+}
+
+// The first of a pair, or the only operand.
+fn operand(op: u64, i: u64, r: u64) -> u64 {
+    if op < FLOOR {
+        operands::first(i, r)
+    } else {
+        operands::only(i, r)
     }
-    native::floor(a)
 }
 
 // Pairs at edges, then pairs at random.
@@ -57,7 +71,7 @@ fn all(op: u64) -> Tally {
     let mut seed: u64 = 0x9e37_79b9_7f4a_7c15;
     for i in 0..PAIRS {
         let r = drawn::next(seed);
-        let a = operands::first(i, r);
+        let a = operand(op, i, r);
         seed = drawn::next(r);
         t = noted(t, outcome(op, a, operands::second(i, a, seed)));
     }
@@ -72,7 +86,7 @@ fn counted(label: &[u8], count: u64) {
 fn report(name: &[u8], t: Tally) {
     io::write_all(STDOUT_FILENO, name);
     counted(b": as IEEE 754 ", t.same);
-    counted(b", apart from it as document 01 says ", t.apart);
+    counted(b", apart from it as the documents say ", t.apart);
     counted(b", skipped ", t.skipped);
     counted(b", different ", t.different);
     io::write_all(STDOUT_FILENO, b"\n");
@@ -82,4 +96,6 @@ fn main() {
     report(b"product", all(PRODUCT));
     report(b"sum", all(SUM));
     report(b"floor", all(FLOOR));
+    report(b"truncation", all(TRUNCATE));
+    report(b"nearest", all(NEAREST));
 }

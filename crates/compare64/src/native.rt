@@ -11,6 +11,11 @@ pub const APART: u64 = 3;
 
 const LEAST_NORMAL: u64 = 0x0010_0000_0000_0000;
 
+// 2^52: from here on every number is whole.
+const WHOLE: u64 = 0x4330_0000_0000_0000;
+
+const INFINITY: u64 = 0x7ff0_0000_0000_0000;
+
 // Bits 62..0.
 fn magnitude(a: u64) -> u64 {
     a & 0x7fff_ffff_ffff_ffff
@@ -18,7 +23,7 @@ fn magnitude(a: u64) -> u64 {
 
 // The float with these bits; a NaN's pattern is not asked for, and gives 0.
 fn number(a: u64) -> f64 {
-    if 0x7ff0_0000_0000_0000 < a & 0x7fff_ffff_ffff_ffff {
+    if INFINITY < a & 0x7fff_ffff_ffff_ffff {
         return 0.0;
     }
     f64::from_bits(a)
@@ -41,7 +46,7 @@ fn plain(a: u64) -> bool {
     if m < LEAST_NORMAL {
         return false;
     }
-    m < 0x7ff0_0000_0000_0000
+    m < INFINITY
 }
 
 fn compared(ours: u64, theirs: u64) -> u64 {
@@ -124,15 +129,21 @@ pub fn sum(a: u64, b: u64) -> u64 {
     compared(binary64::sum(a, b), theirs)
 }
 
-// Below 2^52 in magnitude a sum with 2^52 rounds to a whole number, which is one too large where it lies above x.
-fn whole(x: f64) -> f64 {
+// The nearest whole number, a tie to the even one, for a magnitude below 2^52. This is the processor's own rounding: a sum with 2^52 of x's sign
+// lies where the floats are the whole numbers, so the adder rounds x to one of them, and taking 2^52 away again is exact.
+fn near(x: f64) -> f64 {
     let away = if x < 0.0 {
         -4503599627370496.0
     } else {
         4503599627370496.0
     };
-    let near = (x + away) - away;
-    if near > x { near - 1.0 } else { near }
+    (x + away) - away
+}
+
+// The greatest whole number not above x: the nearest one is one too large where it lies above x.
+fn whole(x: f64) -> f64 {
+    let n = near(x);
+    if n > x { n - 1.0 } else { n }
 }
 
 // Minus zero is where document 01 has -1.
@@ -144,8 +155,31 @@ pub fn floor(a: u64) -> u64 {
         return apart(binary64::floor(a), 0xbff0_0000_0000_0000);
     }
     let x = number(a);
-    if magnitude(a) < 0x4330_0000_0000_0000 {
+    if magnitude(a) < WHOLE {
         return compared(binary64::floor(a), bits(whole(x)));
     }
     compared(binary64::floor(a), bits(x))
+}
+
+// A rounding that keeps the sign: `size` is what the magnitude rounds to natively, and the sign of a is put back; from 2^52 on a is whole. At
+// E = 0 the two agree whatever F is, for what IEEE 754 reads there rounds to a zero too. At E = 2047, where it reads no number, document 02
+// has the operand.
+fn sign_kept(ours: u64, a: u64, size: f64) -> u64 {
+    let m = magnitude(a);
+    if m < WHOLE {
+        return compared(ours, bits(size) | (a & 0x8000_0000_0000_0000));
+    }
+    if m < INFINITY {
+        return compared(ours, bits(number(a)));
+    }
+    apart(ours, a)
+}
+
+// The magnitude's floor, by the adder too: Rattle's conversions that drop a fraction do so on the bits, and not by the processor's own.
+pub fn truncate(a: u64) -> u64 {
+    sign_kept(binary64::truncate(a), a, whole(number(magnitude(a))))
+}
+
+pub fn nearest(a: u64) -> u64 {
+    sign_kept(binary64::nearest(a), a, near(number(magnitude(a))))
 }

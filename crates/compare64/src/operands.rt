@@ -73,6 +73,14 @@ fn drawn_first(way: u64, r: u64) -> u64 {
     }
 }
 
+// A multiple of a half from 1/2 up to 2^52, or a neighbour of one: where rounding to a whole number turns.
+fn near_half(r: u64) -> u64 {
+    let e = 1022 + r / 2048 % 53;
+    let below = 1074 - e;
+    let half = (placed(r, e) >> below) << below;
+    std::num::wrapping_sub_u64(std::num::wrapping_add_u64(half, r % 3), 1)
+}
+
 // Two less than the exponents' sum at which a product overflows, or underflows; whole turns of 2048 do not matter.
 fn limit(r: u64) -> u64
     ensures { λ e. ⌜ (2048 ≤ e) × (e ≤ 4096) ⌝ }
@@ -119,4 +127,12 @@ pub fn second(i: u64, a: u64, r: u64) -> u64 {
         return smaller(i % 256, (i - OF_EDGES) / 256);
     }
     drawn_second(i % 8, a, r)
+}
+
+// The operand of an operation with one: as the first of a pair, but at random in three turns of eight near a half.
+pub fn only(i: u64, r: u64) -> u64 {
+    if i < AT_EDGES {
+        return first(i, r);
+    }
+    if i % 8 < 5 { first(i, r) } else { near_half(r) }
 }

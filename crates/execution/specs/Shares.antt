@@ -1,4 +1,4 @@
--- Product, sum and floor on shares, from document 01's section "Calls and their turn-downs": "n is the first operand's length; the other
+-- The operations on shares, from document 01's section "Calls and their turn-downs": "n is the first operand's length; the other
 -- operand and the result have n words, the work slice 512. Work starts as zeros with operands placed, runs the translated plan and is zeros
 -- afterwards. The result shares are exactly those that share run gives over the same tape. The answer gives tape words used."
 use mathlib.Core.Bool.{not, _&&_}

@@ -12,9 +12,12 @@ use Rattle.masking.proofs.Examples as examples
 use Rattle.translation.proofs.Tied as tied
 use Rattle.binary64.proofs.Meaning as meaning
 use Rattle.binary64.proofs.FloorMeaning as floor-meaning
+use Rattle.binary64.proofs.WholeMeaning as whole-meaning
+use Rattle.binary64.proofs.Dropping as dropping
 use Rattle.binary64.proofs.Ieee as ieee
+use Rattle.binary64.proofs.IeeeWhole as ieee-whole
 use Rattle.binary64.proofs.Corners as at-corners
-use Rattle.binary64.proofs.Edges.{edges-hold}
+use Rattle.binary64.proofs.Edges.{edges-hold, rounding-edges-hold}
 use Rattle.plans.proofs.BuiltIns as plans
 use Rattle.operations.proofs.Masked as operations
 use Rattle.splitting.proofs.SplitJoin as splitting
@@ -38,10 +41,16 @@ claims =
       rounding-means = meaning.rounding-means;
       floor-means = floor-meaning.floor-means;
       floor-minus-zero = floor-meaning.floor-minus-zero;
+      truncate-means = whole-meaning.truncate-means;
+      nearest-means = whole-meaning.nearest-means;
+      dropping-low-bits = dropping.dropping-low-bits;
       product-is-ieee = ieee.product-is-ieee;
       sum-is-ieee = ieee.sum-is-ieee;
+      truncate-is-ieee = ieee-whole.truncate-is-ieee;
+      nearest-is-ieee = ieee-whole.nearest-is-ieee;
       corners = at-corners.corners;
       edges = edges-hold;
+      rounding-edges = rounding-edges-hold;
       built-ins = plans.built-ins;
       masked = operations.masked;
       split-joins = splitting.split-joins;

@@ -27,7 +27,8 @@ use Rattle.masking.specs.Demand3.{EachRun, InARow, Demand3}
 use Rattle.masking.specs.Leaks.{Leak}
 use Rattle.masking.specs.EveryShare.{JoinsWrongly}
 use Rattle.translation.specs.Tied.{Tied, TranslateTied}
-use Rattle.binary64.specs.Meaning.{NearestEven, Rounded, GreatestWhole}
+use Rattle.binary64.specs.Whole.{Dropped}
+use Rattle.binary64.specs.Meaning.{NearestEven, Rounded, GreatestWhole, WholePart, NearestWhole}
 use Rattle.binary64.specs.Corners.{Corners}
 use Rattle.plans.specs.Computes.{Computes}
 use Rattle.plans.specs.Cost.{Cost, Figures}
@@ -107,8 +108,17 @@ rounded h = record { kept-low = h .kept-low; kept-high = h .kept-high; nearest =
 greatest-whole : {a r : ℕ} → GreatestWhole a r → GreatestWhole a r
 greatest-whole h = record { whole = h .whole; reads = h .reads; sign-kept = h .sign-kept; plus = h .plus; minus = h .minus }
 
+whole-part : {a r : ℕ} → WholePart a r → WholePart a r
+whole-part h = record { whole = h .whole; reads = h .reads; sign-kept = h .sign-kept; not-above = h .not-above; greatest = h .greatest }
+
+nearest-whole : {a r : ℕ} → NearestWhole a r → NearestWhole a r
+nearest-whole h = record { whole = h .whole; reads = h .reads; sign-kept = h .sign-kept; nearest-even = h .nearest-even }
+
+dropped : {a k u : ℕ} → Dropped a k u → Dropped a k u
+dropped h = record { word = h .word; rest = h .rest; last = h .last }
+
 corners : Corners → Corners
-corners h = record { reads-zero = h .reads-zero; reads-number = h .reads-number; product-sign = h .product-sign; product-underflow = h .product-underflow; product-before-rounding = h .product-before-rounding; product-rounded-first = h .product-rounded-first; sum-underflow = h .sum-underflow; difference-underflow = h .difference-underflow; zeros-minus = h .zeros-minus; zeros-plus = h .zeros-plus; cancellation = h .cancellation; floor-large = h .floor-large; floor-small-plus = h .floor-small-plus; floor-small-minus = h .floor-small-minus; no-nan = h .no-nan; no-infinity = h .no-infinity; zero-times = h .zero-times }
+corners h = record { reads-zero = h .reads-zero; reads-number = h .reads-number; product-sign = h .product-sign; product-underflow = h .product-underflow; product-before-rounding = h .product-before-rounding; product-rounded-first = h .product-rounded-first; sum-underflow = h .sum-underflow; difference-underflow = h .difference-underflow; zeros-minus = h .zeros-minus; zeros-plus = h .zeros-plus; cancellation = h .cancellation; floor-large = h .floor-large; floor-small-plus = h .floor-small-plus; floor-small-minus = h .floor-small-minus; truncate-large = h .truncate-large; nearest-large = h .nearest-large; truncate-small = h .truncate-small; nearest-small = h .nearest-small; nearest-half = h .nearest-half; no-nan = h .no-nan; no-infinity = h .no-infinity; zero-times = h .zero-times }
 
 computes : {plan : List ℕ} {op : ℕ → ℕ → ℕ} → Computes plan op → Computes plan op
 computes h = record { short = h .short; none-bad = h .none-bad; entries = h .entries; result = h .result }

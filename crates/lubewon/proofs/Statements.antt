@@ -4,7 +4,7 @@ use mathlib.Core.Path.{_≡_, refl}
 use mathlib.Core.Logic.{_⊎_}
 use mathlib.Core.List.{List}
 use lib.Dec.{T}
-use Prim.Native.Nat.{ℕ, _+_, _*_, _^_, _≤_, _<_}
+use Prim.Native.Nat.{ℕ, suc, _+_, _-_, _*_, _^_, _≤_, _<_}
 use lib.Ieee.{binary64, ofBits, toBits, mul, add}
 use lib.ListN.{length, getD}
 use Rattle.bits.specs.Ops.{addW}
@@ -28,14 +28,19 @@ use Rattle.binary64.specs.Number.{sign, expo, frac, magnitude}
 use Rattle.binary64.specs.Rounding.{magBits}
 use Rattle.binary64.specs.Product.{product}
 use Rattle.binary64.specs.Sum.{sum}
+use Rattle.binary64.specs.Whole.{Dropped}
 use Rattle.binary64.specs.Floor.{floor}
-use Rattle.binary64.specs.Ieee.{exactSum}
-use Rattle.binary64.specs.Meaning.{Rounded, GreatestWhole}
-use Rattle.binary64.specs.Edges.{edges}
-use Rattle.binary64.specs.Operations.{Product, Sum, Floor}
+use Rattle.binary64.specs.Truncate.{truncate}
+use Rattle.binary64.specs.Nearest.{nearest}
+use Rattle.binary64.specs.Ieee.{exactSum, roundToIntegral, towardZero, tiesToEven}
+use Rattle.binary64.specs.Meaning.{Rounded, GreatestWhole, WholePart, NearestWhole}
+use Rattle.binary64.specs.Edges.{edges, roundingEdges}
+use Rattle.binary64.specs.Operations.{Product, Sum, Floor, Truncate, Nearest}
 use Rattle.plans.specs.ProductPlan.{productPlan}
 use Rattle.plans.specs.SumPlan.{sumPlan}
 use Rattle.plans.specs.FloorPlan.{floorPlan}
+use Rattle.plans.specs.TruncatePlan.{truncatePlan}
+use Rattle.plans.specs.NearestPlan.{nearestPlan}
 use Rattle.plans.specs.Computes.{Computes}
 use Rattle.execution.specs.Shares.{callAnswer, resultAfter, resultShares}
 use Rattle.operations.specs.Masked.{StepSecret, OnShares}
@@ -126,6 +131,15 @@ module _ (C : Claims) where
   minus-one : (a : ℕ) → a < 2 ^ 64 → sign a ≡ 1 → magnitude a ≡ 0 → floor a ≡ 0xBFF0000000000000
   minus-one = C .floor-minus-zero .2
 
+  truncated : (a : ℕ) → a < 2 ^ 64 → WholePart a (truncate a)
+  truncated = C .truncate-means
+
+  to-nearest : (a : ℕ) → a < 2 ^ 64 → NearestWhole a (nearest a)
+  to-nearest = C .nearest-means
+
+  dropped : (a k u : ℕ) → 1 ≤ expo a → expo a ≤ 2045 → k ≤ 52 → expo a + k ≡ suc u → Dropped a k u
+  dropped = C .dropping-low-bits
+
   -- IEEE 754's, for operands that are zeros or normal numbers, wherever the exact result is zero or not below 2^-1022
   product-ieee : (a b : ℕ) → a < 2 ^ 64 → b < 2 ^ 64 → Alike a → Alike b
       → (magnitude a * magnitude b ≡ 0) ⊎ (2 ^ 1126 ≤ magnitude a * magnitude b)
@@ -136,10 +150,16 @@ module _ (C : Claims) where
       → sum a b ≡ toBits binary64 (add binary64 (ofBits binary64 a) (ofBits binary64 b))
   sum-ieee = C .sum-is-ieee
 
-  -- the table has twelve rows
-  rows : length edges ≡ 12
-  unfolding edges
-  rows = refl
+  truncate-ieee : (a : ℕ) → a < 2 ^ 64 → Alike a → truncate a ≡ toBits binary64 (roundToIntegral towardZero (ofBits binary64 a))
+  truncate-ieee = C .truncate-is-ieee
+
+  nearest-ieee : (a : ℕ) → a < 2 ^ 64 → Alike a → nearest a ≡ toBits binary64 (roundToIntegral tiesToEven (ofBits binary64 a))
+  nearest-ieee = C .nearest-is-ieee
+
+  -- the tables have twelve rows and thirty-eight
+  rows : (length edges ≡ 12) × (length roundingEdges ≡ 38)
+  unfolding edges roundingEdges
+  rows = (refl, refl)
 
   -- every operation's plan, and the operation on shares
   product-plan : Computes productPlan product
@@ -151,6 +171,19 @@ module _ (C : Claims) where
   floor-plan : Computes floorPlan (λ a b. floor a)
   floor-plan = C .built-ins Floor .computes
 
+  truncate-plan : Computes truncatePlan (λ a b. truncate a)
+  truncate-plan = C .built-ins Truncate .computes
+
+  nearest-plan : Computes nearestPlan (λ a b. nearest a)
+  nearest-plan = C .built-ins Nearest .computes
+
+  -- their tape words
+  truncate-tape : (n : ℕ) → 2 ≤ n → n ≤ 8 → foretoldTape n truncatePlan ≤ 5 * (n * (n - 1))
+  truncate-tape = C .built-ins Truncate .cost .tape
+
+  nearest-tape : (n : ℕ) → 2 ≤ n → n ≤ 8 → foretoldTape n nearestPlan ≤ 14 * (n * (n - 1))
+  nearest-tape = C .built-ins Nearest .cost .tape
+
   product-shares : OnShares productPlan product
   product-shares = C .masked Product
 
@@ -159,6 +192,12 @@ module _ (C : Claims) where
 
   floor-shares : OnShares floorPlan (λ a b. floor a)
   floor-shares = C .masked Floor
+
+  truncate-shares : OnShares truncatePlan (λ a b. truncate a)
+  truncate-shares = C .masked Truncate
+
+  nearest-shares : OnShares nearestPlan (λ a b. nearest a)
+  nearest-shares = C .masked Nearest
 
   split : (word : ℕ) (masks : List ℕ) → xorAll (splitOf word masks) ≡ word
   split = C .split-joins .shares

@@ -1,6 +1,6 @@
 -- Every top statement of the library, in one record: the root of what is claimed. `claims`, in proofs/, proves it, so that a statement that is
--- lost fails the gate; proofs/Statements and proofs/Parts do so for most that are narrowed or halved. docs/CLAIMS.md maps the sentences of document
--- 01 to these fields.
+-- lost fails the gate; proofs/Statements and proofs/Parts do so for most that are narrowed or halved. docs/CLAIMS.md maps the sentences of documents
+-- 01 and 02 to these fields.
 use Rattle.bits.specs.Adder.{AdderAdds}
 use Rattle.word.specs.Parts.{WordsExact}
 use Rattle.checks.specs.Answers.{FirstBadFound}
@@ -12,10 +12,11 @@ use Rattle.masking.specs.Leaks.{UnrefreshedLeaks}
 use Rattle.masking.specs.EveryShare.{EveryShareWrong}
 use Rattle.masking.specs.Examples.{TranslationExamples}
 use Rattle.translation.specs.Tied.{TranslateTied}
-use Rattle.binary64.specs.Meaning.{RoundingMeans, FloorMeans, FloorMinusZero}
-use Rattle.binary64.specs.Ieee.{ProductIsIeee, SumIsIeee}
+use Rattle.binary64.specs.Meaning.{RoundingMeans, FloorMeans, FloorMinusZero, TruncateMeans, NearestMeans}
+use Rattle.binary64.specs.Whole.{DroppingLowBits}
+use Rattle.binary64.specs.Ieee.{ProductIsIeee, SumIsIeee, TruncateIsIeee, NearestIsIeee}
 use Rattle.binary64.specs.Corners.{Corners}
-use Rattle.binary64.specs.Edges.{EdgesHold}
+use Rattle.binary64.specs.Edges.{EdgesHold, RoundingEdgesHold}
 use Rattle.plans.specs.BuiltIns.{BuiltIns}
 use Rattle.operations.specs.Masked.{Masked}
 use Rattle.splitting.specs.SplitJoin.{SplitJoins}
@@ -37,14 +38,20 @@ pub record Claims : Type 0 where
   pub unrefreshed-leaks : UnrefreshedLeaks
   -- and that NOT and CONST in every share join wrongly at even n
   pub every-share-wrong : EveryShareWrong
-  -- numbers: what rounding and floor mean, where the results are IEEE 754's, the corners, the table of edges
+  -- numbers: what rounding and the whole numbers mean, the one fact about dropping low bits, where the results are IEEE 754's, the corners, the tables of edges
   pub rounding-means : RoundingMeans
   pub floor-means : FloorMeans
   pub floor-minus-zero : FloorMinusZero
+  pub truncate-means : TruncateMeans
+  pub nearest-means : NearestMeans
+  pub dropping-low-bits : DroppingLowBits
   pub product-is-ieee : ProductIsIeee
   pub sum-is-ieee : SumIsIeee
+  pub truncate-is-ieee : TruncateIsIeee
+  pub nearest-is-ieee : NearestIsIeee
   pub corners : Corners
   pub edges : EdgesHold
+  pub rounding-edges : RoundingEdgesHold
   -- the built-in plans, the operations on shares, split and join
   pub built-ins : BuiltIns
   pub masked : Masked

@@ -1,8 +1,10 @@
-// Product, sum and floor on shares for C that replace their first operand. What holds of them is `Masked`.
+// The operations on shares for C that replace their first operand. What holds of them is `Masked`.
 ghost use mathlib.Core.Path.{_≡_};
 ghost use Rattle.plans.specs.ProductPlan.{productPlan};
 ghost use Rattle.plans.specs.SumPlan.{sumPlan};
 ghost use Rattle.plans.specs.FloorPlan.{floorPlan};
+ghost use Rattle.plans.specs.TruncatePlan.{truncatePlan};
+ghost use Rattle.plans.specs.NearestPlan.{nearestPlan};
 ghost use Rattle.operations.specs.Masked.{Masked};
 ghost use Rattle.execution.specs.Shares.{callAnswer, resultAfter, workAfter, zerosFor};
 use checks::answer::Answer;
@@ -48,4 +50,26 @@ pub extern "C" fn lubewon_floor_in_place(x: &mut [u64], work: &mut [u64], tape: 
     ensures holds { λ _. ⌜ Masked ⌝ }
 {
     operations::in_place::floor(x, work, tape)
+}
+
+// The truncation of a shared operand, likewise.
+#[no_mangle]
+pub extern "C" fn lubewon_truncate_in_place(x: &mut [u64], work: &mut [u64], tape: &[u64]) -> Answer
+    ensures answer { λ r. ⌜ r ≡ callAnswer truncatePlan (now (x .entry)) (zerosFor (now (x .entry))) (now (x .entry)) (now (work .entry)) (now (tape .entry)) ⌝ }
+    ensures x { λ _. ⌜ now (x .exit) ≡ resultAfter truncatePlan (now (x .entry)) (zerosFor (now (x .entry))) (now (x .entry)) (now (work .entry)) (now (tape .entry)) ⌝ }
+    ensures work { λ _. ⌜ now (work .exit) ≡ workAfter truncatePlan (now (x .entry)) (zerosFor (now (x .entry))) (now (x .entry)) (now (work .entry)) (now (tape .entry)) ⌝ }
+    ensures holds { λ _. ⌜ Masked ⌝ }
+{
+    operations::in_place::truncate(x, work, tape)
+}
+
+// The whole number nearest to a shared operand, likewise.
+#[no_mangle]
+pub extern "C" fn lubewon_nearest_in_place(x: &mut [u64], work: &mut [u64], tape: &[u64]) -> Answer
+    ensures answer { λ r. ⌜ r ≡ callAnswer nearestPlan (now (x .entry)) (zerosFor (now (x .entry))) (now (x .entry)) (now (work .entry)) (now (tape .entry)) ⌝ }
+    ensures x { λ _. ⌜ now (x .exit) ≡ resultAfter nearestPlan (now (x .entry)) (zerosFor (now (x .entry))) (now (x .entry)) (now (work .entry)) (now (tape .entry)) ⌝ }
+    ensures work { λ _. ⌜ now (work .exit) ≡ workAfter nearestPlan (now (x .entry)) (zerosFor (now (x .entry))) (now (x .entry)) (now (work .entry)) (now (tape .entry)) ⌝ }
+    ensures holds { λ _. ⌜ Masked ⌝ }
+{
+    operations::in_place::nearest(x, work, tape)
 }

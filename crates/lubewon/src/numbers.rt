@@ -1,13 +1,17 @@
-// Product, sum and floor on plain words, and the copies of their plans, for C.
+// The operations on plain words, and the copies of their plans, for C.
 ghost use mathlib.Core.Path.{_≡_};
 ghost use Rattle.binary64.specs.Product as product-spec;
 ghost use Rattle.binary64.specs.Sum as sum-spec;
 ghost use Rattle.binary64.specs.Floor as floor-spec;
+ghost use Rattle.binary64.specs.Truncate as truncate-spec;
+ghost use Rattle.binary64.specs.Nearest as nearest-spec;
 ghost use Rattle.plans.specs.BuiltIns.{BuiltIns};
 ghost use Rattle.plans.specs.Copy.{copyAnswer, copyOut};
 ghost use Rattle.plans.specs.ProductPlan.{productPlan};
 ghost use Rattle.plans.specs.SumPlan.{sumPlan};
 ghost use Rattle.plans.specs.FloorPlan.{floorPlan};
+ghost use Rattle.plans.specs.TruncatePlan.{truncatePlan};
+ghost use Rattle.plans.specs.NearestPlan.{nearestPlan};
 use checks::answer::Answer;
 
 // The product of two words as numbers.
@@ -34,6 +38,22 @@ pub extern "C" fn lubewon_floor(a: u64) -> u64
     binary64::floor(a)
 }
 
+// The whole part of a number, with its sign.
+#[no_mangle]
+pub extern "C" fn lubewon_truncate(a: u64) -> u64
+    ensures { λ r. ⌜ r ≡ truncate-spec.truncate a ⌝ }
+{
+    binary64::truncate(a)
+}
+
+// The whole number nearest to a number, a tie to the even one, with its sign.
+#[no_mangle]
+pub extern "C" fn lubewon_nearest(a: u64) -> u64
+    ensures { λ r. ⌜ r ≡ nearest-spec.nearest a ⌝ }
+{
+    binary64::nearest(a)
+}
+
 // Copies of the built-in plans. Their words are free by document 01; what holds of them is `BuiltIns`.
 #[no_mangle]
 pub extern "C" fn lubewon_copy_product_plan(out: &mut [u32]) -> Answer
@@ -57,4 +77,20 @@ pub extern "C" fn lubewon_copy_floor_plan(out: &mut [u32]) -> Answer
     ensures holds { λ _. ⌜ BuiltIns ⌝ }
 {
     plans::copy_floor(out)
+}
+
+#[no_mangle]
+pub extern "C" fn lubewon_copy_truncate_plan(out: &mut [u32]) -> Answer
+    ensures { λ r. ⌜ (r ≡ copyAnswer truncatePlan (now (out .entry))) × (now (out .exit) ≡ copyOut truncatePlan (now (out .entry))) ⌝ }
+    ensures holds { λ _. ⌜ BuiltIns ⌝ }
+{
+    plans::copy_truncate(out)
+}
+
+#[no_mangle]
+pub extern "C" fn lubewon_copy_nearest_plan(out: &mut [u32]) -> Answer
+    ensures { λ r. ⌜ (r ≡ copyAnswer nearestPlan (now (out .entry))) × (now (out .exit) ≡ copyOut nearestPlan (now (out .entry))) ⌝ }
+    ensures holds { λ _. ⌜ BuiltIns ⌝ }
+{
+    plans::copy_nearest(out)
 }

@@ -1,8 +1,10 @@
-// Product, sum and floor on shares for C. What holds of them is `Masked`.
+// The operations on shares for C. What holds of them is `Masked`.
 ghost use mathlib.Core.Path.{_≡_};
 ghost use Rattle.plans.specs.ProductPlan.{productPlan};
 ghost use Rattle.plans.specs.SumPlan.{sumPlan};
 ghost use Rattle.plans.specs.FloorPlan.{floorPlan};
+ghost use Rattle.plans.specs.TruncatePlan.{truncatePlan};
+ghost use Rattle.plans.specs.NearestPlan.{nearestPlan};
 ghost use Rattle.operations.specs.Masked.{Masked};
 ghost use Rattle.execution.specs.Shares.{callAnswer, resultAfter, workAfter, zerosFor};
 use checks::answer::Answer;
@@ -55,4 +57,36 @@ pub extern "C" fn lubewon_floor_shares(
     ensures holds { λ _. ⌜ Masked ⌝ }
 {
     operations::floor(x, result, work, tape)
+}
+
+// The truncation of a shared operand, likewise.
+#[no_mangle]
+pub extern "C" fn lubewon_truncate_shares(
+    x: &[u64],
+    result: &mut [u64],
+    work: &mut [u64],
+    tape: &[u64],
+) -> Answer
+    ensures answer { λ r. ⌜ r ≡ callAnswer truncatePlan (now (x .entry)) (zerosFor (now (x .entry))) (now (result .entry)) (now (work .entry)) (now (tape .entry)) ⌝ }
+    ensures result { λ _. ⌜ now (result .exit) ≡ resultAfter truncatePlan (now (x .entry)) (zerosFor (now (x .entry))) (now (result .entry)) (now (work .entry)) (now (tape .entry)) ⌝ }
+    ensures work { λ _. ⌜ now (work .exit) ≡ workAfter truncatePlan (now (x .entry)) (zerosFor (now (x .entry))) (now (result .entry)) (now (work .entry)) (now (tape .entry)) ⌝ }
+    ensures holds { λ _. ⌜ Masked ⌝ }
+{
+    operations::truncate(x, result, work, tape)
+}
+
+// The whole number nearest to a shared operand, likewise.
+#[no_mangle]
+pub extern "C" fn lubewon_nearest_shares(
+    x: &[u64],
+    result: &mut [u64],
+    work: &mut [u64],
+    tape: &[u64],
+) -> Answer
+    ensures answer { λ r. ⌜ r ≡ callAnswer nearestPlan (now (x .entry)) (zerosFor (now (x .entry))) (now (result .entry)) (now (work .entry)) (now (tape .entry)) ⌝ }
+    ensures result { λ _. ⌜ now (result .exit) ≡ resultAfter nearestPlan (now (x .entry)) (zerosFor (now (x .entry))) (now (result .entry)) (now (work .entry)) (now (tape .entry)) ⌝ }
+    ensures work { λ _. ⌜ now (work .exit) ≡ workAfter nearestPlan (now (x .entry)) (zerosFor (now (x .entry))) (now (result .entry)) (now (work .entry)) (now (tape .entry)) ⌝ }
+    ensures holds { λ _. ⌜ Masked ⌝ }
+{
+    operations::nearest(x, result, work, tape)
 }

@@ -1,10 +1,10 @@
-// Product, sum and floor on shares against the plain operations: every pair of the edges and drawn pairs, for n = 2..8. Writes for each n
-// how many results differ; a call that is turned down counts as different.
+// The operations on shares against the plain ones: every pair of the edges and drawn pairs, for n = 2..8. Writes for each n how many results
+// differ; a call that is turned down counts as different.
 ghost use Prim.Native.Nat.{_≤_};
 use libc::STDOUT_FILENO;
 
-// The operands of document 01's table, and the least and greatest of each kind.
-const EDGES: [u64; 16] = [
+// The operands of document 01's table, the least and greatest of each kind, and where rounding to a whole number turns.
+const EDGES: [u64; 24] = [
     0x3ff8000000000000,
     0x0010000000000000,
     0x3fe0000000000000,
@@ -21,10 +21,18 @@ const EDGES: [u64; 16] = [
     0xffffffffffffffff,
     0x7ff0000000000000,
     0xbfefffffffffffff,
+    0xbfe0000000000000,
+    0x3fdfffffffffffff,
+    0xbff8000000000000,
+    0x4004000000000000,
+    0xc004000000000000,
+    0x432fffffffffffff,
+    0x4320000000000001,
+    0x800fffffffffffff,
 ];
 
 // Pairs drawn at random for each n.
-const DRAWN: u64 = 100;
+const DRAWN: u64 = 1000;
 
 fn joined(shares: &[u64]) -> u64 {
     let j = splitting::join(shares);
@@ -36,81 +44,88 @@ fn off(number: u32, word: u64, plain: u64) -> u64 {
     if number == 0 && word == plain { 0 } else { 1 }
 }
 
-fn product_off(a: u64, b: u64, x: &[u64], y: &[u64], tape: &[u64], result: &mut [u64]) -> u64 {
+// The operations by their number; those from 2 on take the first operand alone.
+const OPERATIONS: u64 = 5;
+
+fn plain_result(op: u64, a: u64, b: u64) -> u64 {
+    match op {
+        0 => binary64::product(a, b),
+        1 => binary64::sum(a, b),
+        2 => binary64::floor(a),
+        3 => binary64::truncate(a),
+        _ => binary64::nearest(a),
+    }
+}
+
+// The number that the operation on shares answers.
+fn answered(op: u64, x: &[u64], y: &[u64], tape: &[u64], result: &mut [u64]) -> u32 {
     let mut work = [0u64; 512];
-    let answer = operations::product(x, y, result, &mut work, tape);
-    off(answer.number, joined(result), binary64::product(a, b))
+    let answer = match op {
+        0 => operations::product(x, y, result, &mut work, tape),
+        1 => operations::sum(x, y, result, &mut work, tape),
+        2 => operations::floor(x, result, &mut work, tape),
+        3 => operations::truncate(x, result, &mut work, tape),
+        _ => operations::nearest(x, result, &mut work, tape),
+    };
+    answer.number
 }
 
-fn sum_off(a: u64, b: u64, x: &[u64], y: &[u64], tape: &[u64], result: &mut [u64]) -> u64 {
-    let mut work = [0u64; 512];
-    let answer = operations::sum(x, y, result, &mut work, tape);
-    off(answer.number, joined(result), binary64::sum(a, b))
-}
-
-fn floor_off(a: u64, x: &[u64], tape: &[u64], result: &mut [u64]) -> u64 {
-    let mut work = [0u64; 512];
-    let answer = operations::floor(x, result, &mut work, tape);
-    off(answer.number, joined(result), binary64::floor(a))
-}
-
-// A pair split into as many shares as the lent slices have words.
-fn split_pair(a: u64, b: u64, tape: &[u64], masks: &[u64], x: &mut [u64], y: &mut [u64]) {
-    splitting::split(a, masks, x);
-    splitting::split(b, tape, y);
-}
-
-// How many of the three operations are off on shares x and y of a and b.
-fn three_off(
+fn lent_off(
+    op: u64,
     a: u64,
     b: u64,
     x: &[u64],
     y: &[u64],
     tape: &[u64],
-    p: &mut [u64],
-    s: &mut [u64],
-    f: &mut [u64],
+    result: &mut [u64],
 ) -> u64 {
-    let product = product_off(a, b, x, y, tape, p);
-    let sum = sum_off(a, b, x, y, tape, s);
-    let floor = floor_off(a, x, tape, f);
-    std::num::wrapping_add_u64(product, std::num::wrapping_add_u64(sum, floor))
+    let number = answered(op, x, y, tape, result);
+    off(number, joined(result), plain_result(op, a, b))
 }
 
-fn lent_off(
+// Whether an operation is off on shares x and y of a and b.
+fn operation_off(op: u64, n: usize, a: u64, b: u64, x: &[u64], y: &[u64], tape: &[u64]) -> u64
+    requires { ⌜ n ≤ 8 ⌝ }
+{
+    let mut result = [0u64; 8];
+    lent_off(op, a, b, x, y, tape, &mut result[..n])
+}
+
+// How many of the operations are off on shares x and y of a and b.
+fn operations_off(n: usize, a: u64, b: u64, x: &[u64], y: &[u64], tape: &[u64]) -> u64
+    requires { ⌜ n ≤ 8 ⌝ }
+{
+    let mut count = 0;
+    for op in 0..OPERATIONS {
+        count = std::num::wrapping_add_u64(count, operation_off(op, n, a, b, x, y, tape));
+    }
+    count
+}
+
+// The same, with a pair split into the lent slices, of n words each.
+fn split_off(
+    n: usize,
     a: u64,
     b: u64,
     tape: &[u64],
     masks: &[u64],
     x: &mut [u64],
     y: &mut [u64],
-    p: &mut [u64],
-    s: &mut [u64],
-    f: &mut [u64],
-) -> u64 {
-    split_pair(a, b, tape, masks, x, y);
-    three_off(a, b, x, y, tape, p, s, f)
+) -> u64
+    requires { ⌜ n ≤ 8 ⌝ }
+{
+    splitting::split(a, masks, x);
+    splitting::split(b, tape, y);
+    operations_off(n, a, b, x, y, tape)
 }
 
+// The same, for a pair.
 fn pair_off(n: usize, a: u64, b: u64, tape: &[u64], masks: &[u64]) -> u64
     requires { ⌜ n ≤ 8 ⌝ }
 {
     let mut x = [0u64; 8];
     let mut y = [0u64; 8];
-    let mut p = [0u64; 8];
-    let mut s = [0u64; 8];
-    let mut f = [0u64; 8];
-    lent_off(
-        a,
-        b,
-        tape,
-        masks,
-        &mut x[..n],
-        &mut y[..n],
-        &mut p[..n],
-        &mut s[..n],
-        &mut f[..n],
-    )
+    split_off(n, a, b, tape, masks, &mut x[..n], &mut y[..n])
 }
 
 // Every pair of the edges.
@@ -118,10 +133,10 @@ fn edges_off(n: usize, tape: &[u64], masks: &[u64]) -> u64
     requires { ⌜ n ≤ 8 ⌝ }
 {
     let mut count = 0;
-    for i in 0..256usize {
+    for i in 0..576usize {
         count = std::num::wrapping_add_u64(
             count,
-            pair_off(n, EDGES[i / 16], EDGES[i % 16], tape, masks),
+            pair_off(n, EDGES[i / 24], EDGES[i % 24], tape, masks),
         );
     }
     count

@@ -1,8 +1,10 @@
-// Product, sum and floor on shares that replace their first operand: each is the call of `lib` whose result slice is that operand.
+// The operations on shares that replace their first operand: each is the call of `lib` whose result slice is that operand.
 ghost use mathlib.Core.Path.{_≡_};
 ghost use Rattle.plans.specs.ProductPlan.{productPlan};
 ghost use Rattle.plans.specs.SumPlan.{sumPlan};
 ghost use Rattle.plans.specs.FloorPlan.{floorPlan};
+ghost use Rattle.plans.specs.TruncatePlan.{truncatePlan};
+ghost use Rattle.plans.specs.NearestPlan.{nearestPlan};
 ghost use Rattle.operations.specs.Masked.{Masked};
 ghost use Rattle.execution.specs.Shares.{callAnswer, resultAfter, workAfter, zerosFor};
 use checks::answer::Answer;
@@ -40,5 +42,27 @@ pub fn floor(x: &mut [u64], work: &mut [u64], tape: &[u64]) -> Answer
     ensures holds { λ _. ⌜ Masked ⌝ }
 {
     let plan = plans::floor_table::words();
+    operation_of_one_in_place(&plan, x, work, tape)
+}
+
+// The truncation of a shared operand x, likewise.
+pub fn truncate(x: &mut [u64], work: &mut [u64], tape: &[u64]) -> Answer
+    ensures answer { λ r. ⌜ r ≡ callAnswer truncatePlan (now (x .entry)) (zerosFor (now (x .entry))) (now (x .entry)) (now (work .entry)) (now (tape .entry)) ⌝ }
+    ensures x { λ _. ⌜ now (x .exit) ≡ resultAfter truncatePlan (now (x .entry)) (zerosFor (now (x .entry))) (now (x .entry)) (now (work .entry)) (now (tape .entry)) ⌝ }
+    ensures work { λ _. ⌜ now (work .exit) ≡ workAfter truncatePlan (now (x .entry)) (zerosFor (now (x .entry))) (now (x .entry)) (now (work .entry)) (now (tape .entry)) ⌝ }
+    ensures holds { λ _. ⌜ Masked ⌝ }
+{
+    let plan = plans::truncate_table::words();
+    operation_of_one_in_place(&plan, x, work, tape)
+}
+
+// The whole number nearest to a shared operand x, likewise.
+pub fn nearest(x: &mut [u64], work: &mut [u64], tape: &[u64]) -> Answer
+    ensures answer { λ r. ⌜ r ≡ callAnswer nearestPlan (now (x .entry)) (zerosFor (now (x .entry))) (now (x .entry)) (now (work .entry)) (now (tape .entry)) ⌝ }
+    ensures x { λ _. ⌜ now (x .exit) ≡ resultAfter nearestPlan (now (x .entry)) (zerosFor (now (x .entry))) (now (x .entry)) (now (work .entry)) (now (tape .entry)) ⌝ }
+    ensures work { λ _. ⌜ now (work .exit) ≡ workAfter nearestPlan (now (x .entry)) (zerosFor (now (x .entry))) (now (x .entry)) (now (work .entry)) (now (tape .entry)) ⌝ }
+    ensures holds { λ _. ⌜ Masked ⌝ }
+{
+    let plan = plans::nearest_table::words();
     operation_of_one_in_place(&plan, x, work, tape)
 }

@@ -1,9 +1,11 @@
-// Product, sum and floor on shares: one operation over the words of each plan. The contracts cite the definitions of `execution`, and what holds
+// The operations on shares: one call over the words of each plan. The contracts cite the definitions of `execution`, and what holds
 // of them in `specs/`.
 ghost use mathlib.Core.Path.{_≡_};
 ghost use Rattle.plans.specs.ProductPlan.{productPlan};
 ghost use Rattle.plans.specs.SumPlan.{sumPlan};
 ghost use Rattle.plans.specs.FloorPlan.{floorPlan};
+ghost use Rattle.plans.specs.TruncatePlan.{truncatePlan};
+ghost use Rattle.plans.specs.NearestPlan.{nearestPlan};
 ghost use Rattle.operations.specs.Masked.{Masked};
 ghost use Rattle.execution.specs.Shares.{callAnswer, resultAfter, workAfter, zerosFor};
 use checks::answer::Answer;
@@ -43,5 +45,27 @@ pub fn floor(x: &[u64], result: &mut [u64], work: &mut [u64], tape: &[u64]) -> A
     ensures holds { λ _. ⌜ Masked ⌝ }
 {
     let plan = plans::floor_table::words();
+    operation_of_one(&plan, x, result, work, tape)
+}
+
+// The truncation of a shared operand x, likewise.
+pub fn truncate(x: &[u64], result: &mut [u64], work: &mut [u64], tape: &[u64]) -> Answer
+    ensures answer { λ r. ⌜ r ≡ callAnswer truncatePlan (now (x .entry)) (zerosFor (now (x .entry))) (now (result .entry)) (now (work .entry)) (now (tape .entry)) ⌝ }
+    ensures result { λ _. ⌜ now (result .exit) ≡ resultAfter truncatePlan (now (x .entry)) (zerosFor (now (x .entry))) (now (result .entry)) (now (work .entry)) (now (tape .entry)) ⌝ }
+    ensures work { λ _. ⌜ now (work .exit) ≡ workAfter truncatePlan (now (x .entry)) (zerosFor (now (x .entry))) (now (result .entry)) (now (work .entry)) (now (tape .entry)) ⌝ }
+    ensures holds { λ _. ⌜ Masked ⌝ }
+{
+    let plan = plans::truncate_table::words();
+    operation_of_one(&plan, x, result, work, tape)
+}
+
+// The whole number nearest to a shared operand x, likewise.
+pub fn nearest(x: &[u64], result: &mut [u64], work: &mut [u64], tape: &[u64]) -> Answer
+    ensures answer { λ r. ⌜ r ≡ callAnswer nearestPlan (now (x .entry)) (zerosFor (now (x .entry))) (now (result .entry)) (now (work .entry)) (now (tape .entry)) ⌝ }
+    ensures result { λ _. ⌜ now (result .exit) ≡ resultAfter nearestPlan (now (x .entry)) (zerosFor (now (x .entry))) (now (result .entry)) (now (work .entry)) (now (tape .entry)) ⌝ }
+    ensures work { λ _. ⌜ now (work .exit) ≡ workAfter nearestPlan (now (x .entry)) (zerosFor (now (x .entry))) (now (result .entry)) (now (work .entry)) (now (tape .entry)) ⌝ }
+    ensures holds { λ _. ⌜ Masked ⌝ }
+{
+    let plan = plans::nearest_table::words();
     operation_of_one(&plan, x, result, work, tape)
 }

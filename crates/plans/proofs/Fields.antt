@@ -5,16 +5,15 @@ use mathlib.Core.Path.{_≡_, refl, sym, ap, ap₂, _∙_, subst}
 use Prim.Native.Nat.{ℕ, _+_, _-_, _*_, _/_, _%_, _^_, _≤_, _<_}
 use native.Mathlib.Nat.{add-zero, zero-mul, one-mul, zero-div, div-one, mod-lt, lt-of-lt-of-le}
 use native.Mathlib.Omega.{arith}
-use lib.Bits as Bits
 use lib.Pow as Pow
 use lib.Pow.{pow-pos, pow-mono, shr-shr, shl-shr, ones-lt}
 use Rattle.bits.specs.Ops.{xorW, andW, notW, shlW, shrW, spreadW}
-use Rattle.bits.proofs.Digits.{digit, bit-lt}
+use Rattle.bits.proofs.Digits.{digit, bit-lt, bit}
 use Rattle.bits.proofs.Xor.{xor-comm, xor-cancel-r, and-xor, not-xor}
 use Rattle.bits.proofs.Shift.{shl-zero}
 use Rattle.bits.proofs.Bound.{shr-lt, shl-lt}
 use Rattle.bits.proofs.Choice.{and-ones, select}
-use Rattle.bits.proofs.Places.{shr-is, shl-exact, ones-shr}
+use Rattle.bits.proofs.Places.{shr-is, shl-exact, and-low, ones-shr, bit-mod, bit-mod-above}
 use Rattle.bits.proofs.Sum.{xor-packed}
 
 -- ---- fields: SHL m, SHR m + l leaves the k bits from place l on
@@ -29,6 +28,13 @@ field a m l k e =
 pub low-bits : (a m k : ℕ) → m + k ≡ 64 → shrW (shlW a m) m ≡ a % 2 ^ k
 low-bits a m k e =
     ap (shrW (shlW a m)) (sym (add-zero m)) ∙ field a m 0 k (ap (λ (x : ℕ). x + k) (add-zero m) ∙ e) ∙ ap (λ (x : ℕ). x % 2 ^ k) (div-one a)
+
+-- these by their places
+pub low-in : (k a i : ℕ) → k ≤ 64 → i < k → bit (shrW (shlW a (64 - k)) (64 - k)) i ≡ bit a i
+low-in k a i l h = ap (λ (x : ℕ). bit x i) (low-bits a (64 - k) k (omega arith)) ∙ bit-mod a k i h
+
+pub low-out : (k a i : ℕ) → k ≤ 64 → k ≤ i → bit (shrW (shlW a (64 - k)) (64 - k)) i ≡ 0
+low-out k a i l h = ap (λ (x : ℕ). bit x i) (low-bits a (64 - k) k (omega arith)) ∙ bit-mod-above a k i h
 
 -- ---- SPREAD: all ones times a bit
 pub spread-is : (y : ℕ) → spreadW y ≡ y % 2 * (2 ^ 64 - 1)
@@ -84,10 +90,7 @@ stage-left w s y h =
 pub clear-low : (x k : ℕ) → x < 2 ^ 64 → k ≤ 64 → andW x (notW (2 ^ k - 1)) ≡ x / 2 ^ k * 2 ^ k
 clear-low x k h l =
     let o : 2 ^ k - 1 < 2 ^ 64 = lt-of-lt-of-le (ones-lt k) (pow-mono l) in
-    let low : andW x (2 ^ k - 1) ≡ x % 2 ^ k = mask x k in
+    let low : andW x (2 ^ k - 1) ≡ x % 2 ^ k = and-low x k in
     let sum : xorW (x / 2 ^ k * 2 ^ k) (x % 2 ^ k) ≡ x = xor-packed (x / 2 ^ k) k (x % 2 ^ k) (mod-lt x (pow-pos k)) ∙ Pow.split x k in
     ap (andW x) (not-xor (2 ^ k - 1) o) ∙ and-xor x (2 ^ k - 1) (2 ^ 64 - 1) ∙ ap₂ xorW low (and-ones x h)
     ∙ xor-comm (x % 2 ^ k) x ∙ ap (λ (z : ℕ). xorW z (x % 2 ^ k)) (sym sum) ∙ xor-cancel-r (x / 2 ^ k * 2 ^ k) (x % 2 ^ k)
-  where
-    mask : (x k : ℕ) → andW x (2 ^ k - 1) ≡ x % 2 ^ k
-    mask x k = unfold andW in Bits.and-mask x k

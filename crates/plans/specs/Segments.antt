@@ -16,3 +16,8 @@ stageRight w t m s = Shr t w s ∷ Xor t t w ∷ And t t m ∷ Xor w w t ∷ []
 -- bits 0, 16, 32 and 48 of z: whether sixteen bits of z were all 0, in four lanes; t is scratch
 unfoldable pub zeroTests : ℕ → ℕ → List Step
 zeroTests z t = Not z z ∷ Shr t z 8 ∷ And z z t ∷ Shr t z 4 ∷ And z z t ∷ Shr t z 2 ∷ And z z t ∷ Shr t z 1 ∷ And z z t ∷ []
+
+-- w folded: each place the exclusive-or of itself and all places above it, so that one place alone becomes a mask up to it; register 3 is scratch
+unfoldable pub foldDown : ℕ → List Step
+foldDown w =
+    Shr 3 w 1 ∷ Xor w w 3 ∷ Shr 3 w 2 ∷ Xor w w 3 ∷ Shr 3 w 4 ∷ Xor w w 3 ∷ Shr 3 w 8 ∷ Xor w w 3 ∷ Shr 3 w 16 ∷ Xor w w 3 ∷ Shr 3 w 32 ∷ Xor w w 3 ∷ []

@@ -2,8 +2,10 @@
 // they compute.
 mod copy;
 pub mod floor_table;
+pub mod nearest_table;
 pub mod product_table;
 pub mod sum_table;
+pub mod truncate_table;
 
 use checks::answer::Answer;
 ghost use mathlib.Core.Path.{_≡_};
@@ -12,6 +14,8 @@ ghost use Rattle.plans.specs.Copy.{copyAnswer, copyOut};
 ghost use Rattle.plans.specs.ProductPlan.{productPlan};
 ghost use Rattle.plans.specs.SumPlan.{sumPlan};
 ghost use Rattle.plans.specs.FloorPlan.{floorPlan};
+ghost use Rattle.plans.specs.TruncatePlan.{truncatePlan};
+ghost use Rattle.plans.specs.NearestPlan.{nearestPlan};
 
 // The plans' words are free by document 01; what holds of them is `BuiltIns`, which each copy's contract repeats.
 
@@ -39,5 +43,23 @@ pub fn copy_floor(out: &mut [u32]) -> Answer
     ensures holds { λ _. ⌜ BuiltIns ⌝ }
 {
     let plan = floor_table::words();
+    copy::copy(&plan, out)
+}
+
+// Copies truncation's plan to the front of `out`.
+pub fn copy_truncate(out: &mut [u32]) -> Answer
+    ensures { λ r. ⌜ (r ≡ copyAnswer truncatePlan (now (out .entry))) × (now (out .exit) ≡ copyOut truncatePlan (now (out .entry))) ⌝ }
+    ensures holds { λ _. ⌜ BuiltIns ⌝ }
+{
+    let plan = truncate_table::words();
+    copy::copy(&plan, out)
+}
+
+// Copies nearest's plan to the front of `out`.
+pub fn copy_nearest(out: &mut [u32]) -> Answer
+    ensures { λ r. ⌜ (r ≡ copyAnswer nearestPlan (now (out .entry))) × (now (out .exit) ≡ copyOut nearestPlan (now (out .entry))) ⌝ }
+    ensures holds { λ _. ⌜ BuiltIns ⌝ }
+{
+    let plan = nearest_table::words();
     copy::copy(&plan, out)
 }

@@ -5,10 +5,10 @@ use Rattle.opcheck.proofs.drawn_off.Statement.{statement}
 use Rattle.opcheck.proofs.drawn_off.Tie as tie
 
 abbrev Inv-loop : tie.InvT-loop
-Inv-loop n tape masks count₀ seed₀ -i₀ count seed -i = -i ≤ 100
+Inv-loop n tape masks count₀ seed₀ -i₀ count seed -i = -i ≤ 1000
 
 abbrev μ-loop : tie.MeasureT-loop
-μ-loop n tape masks count₀ seed₀ -i₀ count seed -i = 100 - -i
+μ-loop n tape masks count₀ seed₀ -i₀ count seed -i = 1000 - -i
 
 pub drawn-off-spec : {M : Type 1} → statement M
 drawn-off-spec =

@@ -3,7 +3,6 @@
 -- Rests on Head for the masks, and on binary64's FloorModel for floor on the word itself.
 use mathlib.Core.Path.{_≡_, refl, sym, ap, ap₂, _∙_, subst}
 use mathlib.Core.Logic.{inl, inr}
-use mathlib.Core.List.{List}
 use Prim.Native.Nat.{ℕ, _+_, _-_, _*_, _/_, _%_, _^_, _≤_, _<_}
 use native.Mathlib.Nat.{add-zero, mul-zero, mul-one, mod-eq-of-lt, div-eq-of-lt, div-one, lt-of-lt-of-le}
 use native.Mathlib.Omega.{arith}
@@ -16,15 +15,15 @@ use Rattle.bits.proofs.Xor.{xor-zero, xor-zero-l}
 use Rattle.bits.proofs.Choice.{and-spread}
 use Rattle.bits.proofs.Places.{shr-is, add-exact}
 use Rattle.bits.proofs.Sum.{xor-packed}
-use Rattle.plain.specs.Machine.{stepped, run}
+use Rattle.plain.specs.Machine.{stepped}
 use Rattle.binary64.specs.Number.{sign, expo}
 use Rattle.binary64.specs.Floor.{floor}
 use Rattle.binary64.proofs.Cases.{lt-or-ge}
 use Rattle.binary64.proofs.FloorModel.{floor-large, floor-small-plus, floor-small-minus, floor-plus, floor-minus}
 use Rattle.plans.specs.Computes.{Computes}
 use Rattle.plans.specs.FloorPlan.{floorSteps, floorPlan}
-use Rattle.plans.proofs.Registers.{runSteps, allInPlan, run-steps, tab, tabbed}
-use Rattle.plans.proofs.WellFormed.{none-bad, each-good}
+use Rattle.plans.proofs.Registers.{runSteps, allInPlan, tab}
+use Rattle.plans.proofs.Modelled.{plan-computes}
 use Rattle.plans.proofs.Fields.{low-bits, spread-run-at, clear-low}
 use Rattle.plans.proofs.Lanes.{zeros16}
 use Rattle.plans.proofs.floor.FractionMask.{maskW, maskU}
@@ -152,13 +151,7 @@ module _ (x : ℕ) (hx : x < 2 ^ 64) where
         | inr g ↦ ap₂ (roundDown x) (m .above g .0) (m .above g .1) ∙ floor-above g
       ]
 
-pub floor-computes : (cells : List ℕ) → length cells ≡ 32 → ((r : ℕ) → getD cells r 0 < 2 ^ 64) → getD (run floorPlan cells) 2 0 ≡ floor (getD cells 0 0)
-unfolding floorPlan
-floor-computes cells len small =
-    ap (λ (l : List ℕ). getD l 2 0) (run-steps floorSteps floor-good cells)
-    ∙ ap (λ (l : List ℕ). getD (runSteps floorSteps l) 2 0) (sym (tabbed cells len))
-    ∙ modelled (λ r. getD cells r 0) ∙ floor-model (getD cells 0 0) (small 0)
-
+-- what holds of the plan
 pub floor-plan : Computes floorPlan (λ a b. floor a)
 unfolding floorPlan
-floor-plan = record { short = omega (arith, floor-length); none-bad = none-bad floorSteps floor-good; entries = each-good floorPlan (none-bad floorSteps floor-good); result = floor-computes }
+floor-plan = plan-computes floorSteps (λ a b. floor a) floor-good (omega (arith, floor-length)) (λ f words. modelled f ∙ floor-model (f 0) (words 0))

@@ -18,7 +18,7 @@ cast-places c = fits-below tt (leading-le 64 (c .args .z))
 pack-requires : tie.Need-pack-requires
 pack-requires c κs =
     let z = c .before .before .args .z in
-    omega (arith, c .nearest .ensures, round-11 ((z * 2 ^ (leadingZeros 64 z % 64)) % 2 ^ 64))
+    omega (arith, c .rounded .ensures, round-11 ((z * 2 ^ (leadingZeros 64 z % 64)) % 2 ^ 64))
 
 returns : tie.Need-returns
 returns c =
@@ -31,7 +31,7 @@ returns c =
     ∙ ap (λ (x : ℕ). cond (not (eqb z 0)) x 0)
     (c .before .kept .ensures
     ∙ ap (λ (x : ℕ). cond (leb (leadingZeros 64 z) e) x 0)
-    (p .pack .ensures ∙ ap (λ (q : ℕ). cond (ltb (w .wrapping-sub-u64 .result) 2046) (w .wrapping-sub-u64 .result * 2 ^ 52 + q) (2047 * 2 ^ 52)) (p .before .nearest .ensures)))
+    (p .pack .ensures ∙ ap (λ (q : ℕ). cond (ltb (w .wrapping-sub-u64 .result) 2046) (w .wrapping-sub-u64 .result * 2 ^ 52 + q) (2047 * 2 ^ 52)) (p .before .rounded .ensures)))
     ∙ encode-selected z e (w .wrapping-sub-u64 .result) (s .fits .z .fits) (omega arith) (s .fits .e .fits) (w .wrapping-sub-u64 .ensures)
 
 pub encode-spec : {M : Type 1} → statement M

@@ -1,0 +1,123 @@
+-- The roundings to a whole number as the code selects them, by the range of E and without a branch, against the cases of the definitions.
+-- Rests on FloorModel and WholeModel, which have the cases.
+use mathlib.Core.Path.{_≡_, sym, ap, ap₂, _∙_}
+use mathlib.Core.Bool.{Bool, cond}
+use mathlib.Core.Logic.{inl, inr}
+use Prim.Native.Nat.{ℕ, suc, _+_, _-_, _*_, _/_, _%_, _^_, _≤_, _<_, min}
+use native.Mathlib.Nat.{add-zero, mod-eq-of-lt, div-add-mod'}
+use native.Mathlib.Omega.{arith}
+use lib.Bits.{bitAnd, bitOr, and-mask, or-shifted}
+use lib.Dec.{ltb, eqb}
+use lib.Pow.{pow-pos, pow-mono, ones-split, ones-lt, high}
+use Rattle.binary64.specs.Number.{sign, expo, frac, signed}
+use Rattle.binary64.specs.Floor.{floor}
+use Rattle.binary64.specs.Truncate.{truncate}
+use Rattle.binary64.specs.Nearest.{nearest}
+use Rattle.binary64.specs.Steps.{loweredBy, FractionOf, LastWholeOf}
+use Rattle.binary64.proofs.Cases.{lt-or-ge, by-lt, by-eq}
+use Rattle.binary64.proofs.Round.{half-added}
+use Rattle.binary64.proofs.FloorModel.{floor-large, floor-small-plus, floor-small-minus, floor-plus, floor-minus}
+use Rattle.binary64.proofs.WholeModel.{truncate-large, truncate-small, truncate-between, nearest-large, nearest-small, nearest-half, nearest-between}
+
+-- ---- what is taken by the range of E
+pub by-range : (a small between r : ℕ) → (expo a < 1023 → small ≡ r) → (1023 ≤ expo a → expo a < 1075 → between ≡ r) → (1075 ≤ expo a → a ≡ r)
+    → cond (ltb (expo a) 1023) small (cond (ltb (expo a) 1075) between a) ≡ r
+by-range a small between r s b l =
+    by-lt (λ (t : Bool). cond t small (cond (ltb (expo a) 1075) between a) ≡ r) (expo a) 1023 s
+    (λ g. by-lt (λ (t : Bool). cond t between a ≡ r) (expo a) 1075 (b g) l)
+
+-- ---- the fraction's bits as a mask, and a word without them
+pub mask : (E : ℕ) → 1023 ≤ E → E < 1075 → (2 ^ 52 - 1) / 2 ^ ((E + 1) % 64) ≡ 2 ^ (1075 - E) - 1
+mask E lo hi =
+    let d : (E + 1) % 64 ≡ E - 1023 = omega arith in
+    let w : 1075 - E + (E - 1023) ≡ 52 = omega arith in
+    ap₂ (λ (n k : ℕ). (2 ^ n - 1) / 2 ^ k) (sym w) d
+    ∙ ap (λ (x : ℕ). x / 2 ^ (E - 1023)) (ones-split (1075 - E) (E - 1023))
+    ∙ high (2 ^ (1075 - E) - 1) (E - 1023) (ones-lt (E - 1023))
+
+without : (t k : ℕ) → t - bitAnd t (2 ^ k - 1) ≡ t / 2 ^ k * 2 ^ k
+without t k = ap (λ (x : ℕ). t - x) (and-mask t k) ∙ rest (t / 2 ^ k * 2 ^ k) (t % 2 ^ k) t (div-add-mod' t (2 ^ k))
+  where
+    rest : (x r t : ℕ) → x + r ≡ t → t - r ≡ x
+    rest x r t e = omega arith
+
+-- with a fraction there is room above a
+room : (a k : ℕ) → a < 2 ^ 64 → expo a < 1075 → k ≤ 52 → a + 2 ^ k < 2 ^ 64
+room a k h l le = let p : 2 ^ k ≤ 2 ^ 52 = pow-mono {i = k} {j = 52} le in omega arith
+
+-- ---- floor
+lowered : (a k : ℕ) → a + 2 ^ k < 2 ^ 64 → loweredBy (2 ^ k - 1) a ≡ cond (eqb (sign a) 0) (a / 2 ^ k * 2 ^ k) ((a + (2 ^ k - 1)) / 2 ^ k * 2 ^ k)
+unfolding loweredBy
+lowered a k h =
+    by-eq (λ (b : Bool). raised b - bitAnd (raised b) (2 ^ k - 1) ≡ cond b (a / 2 ^ k * 2 ^ k) ((a + (2 ^ k - 1)) / 2 ^ k * 2 ^ k)) (sign a) 0
+    (λ _. ap (λ (t : ℕ). t - bitAnd t (2 ^ k - 1)) (omega arith) ∙ without a k)
+    (λ _. ap (λ (t : ℕ). t - bitAnd t (2 ^ k - 1)) (mod-eq-of-lt (omega (arith, pow-pos k))) ∙ without (a + (2 ^ k - 1)) k)
+  where
+    raised : Bool → ℕ
+    raised b = (a + cond b 0 (2 ^ k - 1)) % 2 ^ 64
+
+pub floor-selected : (a f : ℕ) → a < 2 ^ 64 → FractionOf a f
+    → cond (ltb (expo a) 1023) (cond (eqb (sign a) 0) 0 0xBFF0000000000000) (cond (ltb (expo a) 1075) (loweredBy f a) a) ≡ floor a
+floor-selected a f ha hf =
+    by-range a _ _ (floor a)
+    (λ l. by-eq (λ (b : Bool). cond b 0 0xBFF0000000000000 ≡ floor a) (sign a) 0 (λ e. sym (floor-small-plus a l e)) (λ n. sym (floor-small-minus a l n)))
+    (λ g l.
+    let k = 1075 - expo a in
+    ap (λ (f : ℕ). loweredBy f a) (hf g l) ∙ lowered a k (room a k ha l (omega arith))
+    ∙ by-eq (λ (b : Bool). cond b (a / 2 ^ k * 2 ^ k) ((a + (2 ^ k - 1)) / 2 ^ k * 2 ^ k) ≡ floor a) (sign a) 0 (λ e. sym (floor-plus a g l e)) (λ n. sym (floor-minus a g l n)))
+    (λ l. sym (floor-large a l))
+
+-- ---- truncation
+pub truncate-selected : (a f : ℕ) → FractionOf a f → cond (ltb (expo a) 1023) (sign a * 2 ^ 63) (cond (ltb (expo a) 1075) (a - bitAnd a f) a) ≡ truncate a
+truncate-selected a f hf =
+    by-range a _ _ (truncate a) (λ l. sym (truncate-small a l ∙ add-zero (sign a * 2 ^ 63)))
+    (λ g l. ap (λ (f : ℕ). a - bitAnd a f) (hf g l) ∙ without a (1075 - expo a) ∙ sym (truncate-between a g l)) (λ l. sym (truncate-large a l))
+
+-- ---- nearest
+-- below 1: what is above a half, the bits 3FE · 2^52, becomes 1
+nearest-below-one : (a : ℕ) → expo a < 1023 → bitOr (sign a * 2 ^ 63) (cond (ltb (1022 * 2 ^ 52) (bitAnd a (2 ^ 63 - 1))) (1023 * 2 ^ 52) 0) ≡ nearest a
+nearest-below-one a h =
+    by-lt (λ (t : Bool). bitOr (sign a * 2 ^ 63) (cond t (1023 * 2 ^ 52) 0) ≡ nearest a) (1022 * 2 ^ 52) (bitAnd a (2 ^ 63 - 1))
+    (λ g.
+    let E : expo a ≡ 1022 = omega (arith, and-mask a 63) in
+    let F : 0 < frac a = omega (arith, and-mask a 63) in
+    or-shifted (sign a) 63 (1023 * 2 ^ 52) (omega arith) ∙ ap (signed (sign a)) (one (frac a) F) ∙ sym (nearest-half a E))
+    (λ l. or-shifted (sign a) 63 0 (pow-pos 63)
+    ∙ elim (lt-or-ge (expo a) 1022) [
+      | inl s ↦ sym (nearest-small a s)
+      | inr g ↦
+          let E : expo a ≡ 1022 = omega arith in
+          let F : frac a ≡ 0 = omega (arith, and-mask a 63) in
+          ap (signed (sign a)) (none (frac a) F) ∙ sym (nearest-half a E)
+    ])
+  where
+    one : (F : ℕ) → 0 < F → 1023 * 2 ^ 52 ≡ min F 1 * (1023 * 2 ^ 52)
+    one F h = omega arith
+
+    none : (F : ℕ) → F ≡ 0 → 0 ≡ min F 1 * (1023 * 2 ^ 52)
+    none F h = omega arith
+
+-- between: half a unit less one and the last bit of the whole part added, modulo 2^64
+nearest-added : (a f l : ℕ) → a < 2 ^ 64 → l < 2 → FractionOf a f → LastWholeOf a l → 1023 ≤ expo a → expo a < 1075
+    → (a + (f / 2 + l)) % 2 ^ 64 - bitAnd ((a + (f / 2 + l)) % 2 ^ 64) f ≡ nearest a
+nearest-added a f l ha hl hf hw lo hi = go (1074 - expo a) (omega arith)
+  where
+    go : (j : ℕ) → 1075 - expo a ≡ suc j → (a + (f / 2 + l)) % 2 ^ 64 - bitAnd ((a + (f / 2 + l)) % 2 ^ 64) f ≡ nearest a
+    go j e =
+        let k : f ≡ 2 ^ suc j - 1 = hf lo hi ∙ ap (λ (z : ℕ). 2 ^ z - 1) e in
+        let w : l ≡ a / 2 ^ suc j % 2 = hw lo hi ∙ ap (λ (z : ℕ). a / 2 ^ z % 2) e in
+        let half : f / 2 ≡ 2 ^ j - 1 = ap (λ (z : ℕ). z / 2) k ∙ omega arith in
+        let fits : a + 2 ^ j < 2 ^ 64 = room a j ha hi (omega arith) in
+        let t : (a + (f / 2 + l)) % 2 ^ 64 ≡ a + (2 ^ j - 1 + l) = ap (λ (z : ℕ). (a + (z + l)) % 2 ^ 64) half ∙ mod-eq-of-lt (omega (arith, pow-pos j)) in
+        ap₂ (λ (t f : ℕ). t - bitAnd t f) t k ∙ without (a + (2 ^ j - 1 + l)) (suc j)
+        ∙ ap (λ (n : ℕ). n * 2 ^ suc j)
+        (half-added a j l hl ∙ ap (λ (l : ℕ). a / 2 ^ suc j + a / 2 ^ j % 2 * min (l + a % 2 ^ j) 1) w)
+        ∙ sym (nearest-between a j lo hi (omega arith))
+
+-- over the code's own words: t the raised word, r that without its fraction, s the sign in place, o the bits of what is above a half, v what is taken
+pub nearest-selected : (a f l t r s o v : ℕ) → a < 2 ^ 64 → l < 2 → FractionOf a f → LastWholeOf a l → t ≡ (a + (f / 2 + l)) % 2 ^ 64 → r ≡ t - bitAnd t f
+    → s ≡ sign a * 2 ^ 63 → o ≡ cond (ltb (1022 * 2 ^ 52) (bitAnd a (2 ^ 63 - 1))) (1023 * 2 ^ 52) 0
+    → v ≡ cond (ltb (expo a) 1023) (bitOr s o) (cond (ltb (expo a) 1075) r a) → v ≡ nearest a
+nearest-selected a f l t r s o v ha hl hf hw ht hr hs ho hv =
+    hv ∙ by-range a (bitOr s o) r (nearest a) (λ b. ap₂ bitOr hs ho ∙ nearest-below-one a b)
+    (λ g b. hr ∙ ap (λ (t : ℕ). t - bitAnd t f) ht ∙ nearest-added a f l ha hl hf hw g b) (λ b. sym (nearest-large a b))

@@ -1,0 +1,90 @@
+-- The steps of nearest's plan after the decoder, as functions of what the decoder leaves; and what each part is in numbers: the first bit dropped, what decides
+-- beside it, and the operand without its low bits.
+-- Rests on Rounded, on the decoder's fold, and on the laws of words.
+use mathlib.Core.Path.{_≡_, refl, sym, ap, ap₂, _∙_}
+use Prim.Native.Nat.{ℕ, suc, _+_, _-_, _*_, _/_, _%_, _^_, _<_, min}
+use native.Mathlib.Nat.{mod-lt, zero-mul, one-mul, div-add-mod'}
+use native.Mathlib.Omega.{arith}
+use lib.Bits.{differ}
+use lib.Dec.{T, eqb, eqb→eq}
+use lib.Pow.{pow-pos}
+use Rattle.bits.specs.Ops.{xorW, andW, notW, shlW, shrW}
+use Rattle.bits.proofs.Digits.{digit, bit}
+use Rattle.bits.proofs.Xor.{xor-cancel-r, and-zero}
+use Rattle.bits.proofs.Places.{and-low, and-block, bit-zero, bit-not}
+use Rattle.bits.proofs.Sum.{xor-packed}
+use Rattle.plans.proofs.Tests.{every, each}
+use Rattle.plans.proofs.decoder.Decoded.{fold}
+use Rattle.plans.proofs.nearest.Rounded.{oneOf, raisedBy, kept, raised}
+
+-- ---- the steps after the decoder: p the place, W and U the masks, h whether E = 1022
+-- the bits dropped, and the first of them alone
+abbrev pub bitsOf : ℕ → ℕ → ℕ → ℕ
+bitsOf x W U = andW x (xorW W U)
+
+-- the first bit dropped, in place 0
+unfoldable pub firstOf : ℕ → ℕ → ℕ → ℕ
+firstOf x p h = xorW (fold (andW x p)) h
+
+-- what decides with it: the other bits dropped, the last bit kept, and in place 63 the opposite of the first
+unfoldable pub othersOf : ℕ → ℕ → ℕ → ℕ
+othersOf x p f = xorW (xorW (shrW (shlW f 12) 12) (andW x p)) (andW (shlW p 1) x)
+
+unfoldable pub roundedTo : ℕ → ℕ → ℕ → ℕ → ℕ → ℕ
+roundedTo x p W U h =
+    let f : ℕ = bitsOf x W U in
+    let b : ℕ = firstOf x p h in
+    raisedBy (xorW x f) W h (xorW (xorW x W) f) (xorW (othersOf x p f) (shlW (notW b) 63)) b
+
+-- ---- parts of a word
+-- the bit at place j alone
+pub one-bit : (x j : ℕ) → andW x (2 ^ j) ≡ bit x j * 2 ^ j
+one-bit x j =
+    let w : x / 2 ^ j * 2 ^ j + x % 2 ^ j ≡ x = div-add-mod' x (2 ^ j) in
+    let o : 1 * 2 ^ j + 0 ≡ 2 ^ j = omega arith in
+    ap₂ andW (sym w) (sym o) ∙ and-block j (x / 2 ^ j) 1 (x % 2 ^ j) 0 (mod-lt x (pow-pos j)) (pow-pos j)
+    ∙ ap₂ (λ (a b : ℕ). a * 2 ^ j + b) (and-low (x / 2 ^ j) 1) (and-zero (x % 2 ^ j)) ∙ omega arith
+
+-- without its k low bits
+pub without-low : (x k : ℕ) → xorW x (x % 2 ^ k) ≡ x / 2 ^ k * 2 ^ k
+without-low x k =
+    ap (λ (w : ℕ). xorW w (x % 2 ^ k)) (sym (div-add-mod' x (2 ^ k)) ∙ sym (xor-packed (x / 2 ^ k) k (x % 2 ^ k) (mod-lt x (pow-pos k))))
+    ∙ xor-cancel-r (x / 2 ^ k * 2 ^ k) (x % 2 ^ k)
+
+-- one place folded is the mask up to it
+fold-tested : T (every 64 (λ j. eqb (fold (2 ^ j)) (2 ^ suc j - 1)))
+unfolding xorW shrW fold
+fold-tested = tt
+
+pub fold-none : fold 0 ≡ 0
+unfolding xorW shrW fold
+fold-none = refl
+
+pub fold-bit : (b j : ℕ) → b < 2 → j < 64 → fold (b * 2 ^ j) ≡ b * (2 ^ suc j - 1)
+fold-bit b j hb hj =
+    digit (λ b. fold (b * 2 ^ j) ≡ b * (2 ^ suc j - 1))
+    (ap fold (zero-mul (2 ^ j)) ∙ fold-none ∙ sym (zero-mul (2 ^ suc j - 1)))
+    (ap fold (one-mul (2 ^ j)) ∙ eqb→eq _ _ (each 64 (λ j. eqb (fold (2 ^ j)) (2 ^ suc j - 1)) fold-tested j hj) ∙ sym (one-mul (2 ^ suc j - 1)))
+    b hb
+
+-- the opposite of a bit, in place 63
+pub opposite : (b : ℕ) → b < 2 ^ 64 → shlW (notW b) 63 ≡ (1 - b % 2) * 2 ^ 63
+unfolding shlW
+opposite b h = top (notW b) ∙ ap (λ (v : ℕ). v * 2 ^ 63) (sym (bit-zero (notW b)) ∙ bit-not b 0 h (omega arith) ∙ ap (λ (v : ℕ). 1 - v) (bit-zero b))
+  where
+    top : (w : ℕ) → shlW w 63 ≡ w % 2 * 2 ^ 63
+    top w = omega arith
+
+-- ---- the steps after the decoder from what they read
+module _ (x p W U h z y F : ℕ) (hW : W < 2 ^ 64) (hF : F < 2 ^ 64) where
+  module _ (ze : xorW x (bitsOf x W U) ≡ z) (ye : xorW (xorW x W) (bitsOf x W U) ≡ y)
+      (fe : xorW (othersOf x p (bitsOf x W U)) (shlW (notW (firstOf x p h)) 63) ≡ F) where
+    parts : roundedTo x p W U h ≡ raisedBy z W h y F (firstOf x p h)
+    unfolding roundedTo
+    parts = rw (ze, ye, fe) refl
+
+    pub stays : differ (1 - min F 1) (firstOf x p h % 2) ≡ 0 → roundedTo x p W U h ≡ z
+    stays e = parts ∙ kept z W h y F (firstOf x p h) hW hF e
+
+    pub goes-up : differ (1 - min F 1) (firstOf x p h % 2) ≡ 1 → y < 2 ^ 64 - 1 → xorW z W ≡ y → roundedTo x p W U h ≡ xorW (y + 1) (oneOf h)
+    goes-up e hy zy = parts ∙ raised z W h y F (firstOf x p h) hW hF e hy zy

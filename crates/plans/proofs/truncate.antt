@@ -1,0 +1,2 @@
+-- Truncation's plan: the theorem (Computes).
+pub mod Computes

@@ -1,0 +1,81 @@
+-- The decoder of the exponent that truncation and nearest share: from E one place, 2^(1074−E) for 1023 ≤ E ≤ 1074, and from it the mask W of the bits to drop,
+-- by four ANDs and no ADD. E is 64c + r, r is 8h + l. Two decoders of 3 bits, for h and for l, give a word with one place for r; tests of c ride in places that
+-- these leave free.
+-- Registers: 0 the operand, 22 r, 23 c; 9, 10, 11 the literals B0, B1, B2; 12 a pattern; 13 the word that is decoded; 4 and 5 the tests of c; 8 the place, 6 W, 7 U;
+-- 3, 14, 19 and 20 are scratch.
+use mathlib.Core.List.{List, [], _∷_, _++_}
+use Prim.Native.Nat.{ℕ}
+use Rattle.word.specs.declared.step.Step.{Step}
+use Rattle.word.specs.declared.step.Step.the-variants.{Const, Xor, And, Not, Shl, Shr, Spread}
+use Rattle.plans.specs.Segments.{foldDown}
+
+-- r = E mod 64 and c = E / 64
+unfoldable pub exponentParts : List Step
+exponentParts = Shl 22 0 6 ∷ Shr 22 22 58 ∷ Shl 23 0 1 ∷ Shr 23 23 59 ∷ []
+
+-- register 12: the word whose place p is bit 5 of p; then bit 4, 3, .. of p, by shifts of 16, 8, ..
+unfoldable pub firstPattern : List Step
+firstPattern = Const 12 0 ∷ Not 12 12 ∷ Shl 12 12 32 ∷ []
+
+unfoldable pub nextPattern : ℕ → List Step
+nextPattern s = Shr 3 12 s ∷ Xor 12 12 3 ∷ []
+
+-- bit k of r compared with the pattern in places 12 to 63 of b, for h, and the bit itself in place 8
+unfoldable pub highLiteral : ℕ → ℕ → List Step
+highLiteral b k = Shr 3 22 k ∷ Spread 3 3 ∷ Xor b 3 12 ∷ Shr b b 12 ∷ Shl b b 12 ∷ Shr 3 3 63 ∷ Shl 3 3 8 ∷ Xor b b 3 ∷ []
+
+-- bit k of r compared with the pattern in places 0 to 7 of b, for l
+unfoldable pub lowLiteral : ℕ → ℕ → List Step
+lowLiteral b k = Shr 3 22 k ∷ Spread 3 3 ∷ Xor 3 3 12 ∷ Shr 3 3 56 ∷ Xor b b 3 ∷ []
+
+unfoldable pub literals : List Step
+unfolding firstPattern nextPattern highLiteral lowLiteral
+literals =
+    firstPattern ++ (highLiteral 11 5 ++ (nextPattern 16 ++ (highLiteral 10 4 ++ (nextPattern 8 ++ (highLiteral 9 3 ++
+    (nextPattern 4 ++ (lowLiteral 11 2 ++ (nextPattern 2 ++ (lowLiteral 10 1 ++ (nextPattern 1 ++ lowLiteral 9 0))))))))))
+
+-- register 13: x AND y, and m: m AND n, which ride in places 9 to 11 of x and y, where these are 0
+unfoldable pub riding : ℕ → ℕ → ℕ → ℕ → List Step
+riding x y m n =
+    Shl m m 9 ∷ Xor x x m ∷ Shl n n 9 ∷ Xor y y n ∷ And 13 x y ∷ Shl m 13 52 ∷ Shr m m 61 ∷ Shl 3 13 55 ∷ Shr 3 3 55 ∷
+    Shr 13 13 12 ∷ Shl 13 13 12 ∷ Xor 13 13 3 ∷ []
+
+-- registers 4 and 5: bits 0, 1 of c and bits 2, 3, for an AND, after which register 4 says which of these pairs are both 1; register 6: which differ
+unfoldable pub pairs : List Step
+pairs = Shl 4 23 62 ∷ Shr 4 4 62 ∷ Shl 5 23 60 ∷ Shr 5 5 62 ∷ Xor 6 4 5 ∷ []
+
+-- registers 4 and 5: of either pair whether both are 1, and whether both are 0, for an AND, after which register 4 says whether bits 0 to 3 of c are all 1, and
+-- whether they are all 0
+unfoldable pub pairsOfPairs : List Step
+pairsOfPairs =
+    Xor 6 6 4 ∷ Not 6 6 ∷ Shl 7 6 63 ∷ Shr 7 7 62 ∷ Shr 6 6 1 ∷ Shl 6 6 63 ∷ Shr 6 6 62 ∷ Shr 5 4 1 ∷ Xor 5 5 6 ∷
+    Shl 4 4 63 ∷ Shr 4 4 63 ∷ Xor 4 4 7 ∷ []
+
+-- registers 19 and 20: the places for h, and those for l eight times over, for an AND that leaves place 63 − r, from 12 up, with place 0 for r = 63 and place 1 for
+-- r = 62; register 5: bit 4 of c and its opposite, for the tests
+unfoldable pub highAndLow : List Step
+highAndLow =
+    Shl 14 13 56 ∷ Shr 14 14 56 ∷ Shl 3 14 8 ∷ Xor 14 14 3 ∷ Shl 3 14 16 ∷ Xor 14 14 3 ∷ Shl 3 14 32 ∷ Xor 14 14 3 ∷
+    Shr 19 13 12 ∷ Shl 19 19 12 ∷ Shl 3 13 55 ∷ Shr 3 3 63 ∷ Xor 19 19 3 ∷ Shl 3 3 1 ∷ Xor 19 19 3 ∷
+    Shr 20 14 12 ∷ Shl 20 20 12 ∷ Shl 3 14 62 ∷ Shr 3 3 62 ∷ Xor 20 20 3 ∷
+    Shr 5 23 4 ∷ Shl 3 5 1 ∷ Xor 5 5 3 ∷ Const 3 1 ∷ Xor 5 5 3 ∷ []
+
+-- the places from 12 up where c = 16, places 0 and 1 where c = 15
+unfoldable pub byTests : List Step
+byTests =
+    Shr 5 4 1 ∷ Spread 5 5 ∷ Shl 5 5 12 ∷ Shl 4 4 63 ∷ Shr 4 4 63 ∷ Xor 5 5 4 ∷ Shl 4 4 1 ∷ Xor 5 5 4 ∷ And 13 13 5 ∷ []
+
+-- register 3: whether E = 1023; register 8: 2^(1074−E) for 1023 ≤ E ≤ 1074, else 0
+unfoldable pub onePlace : List Step
+onePlace = Shl 3 13 63 ∷ Shr 3 3 63 ∷ Shl 4 3 51 ∷ Shr 8 13 13 ∷ Xor 8 8 4 ∷ []
+
+-- U: 63 ones for E < 1023, else none; W: the 1075 − E low bits for 1023 ≤ E ≤ 1074, else none
+unfoldable pub masks : List Step
+unfolding foldDown
+masks = Shr 7 23 4 ∷ Not 7 7 ∷ Xor 7 7 3 ∷ Spread 7 7 ∷ Shr 7 7 1 ∷ Shl 6 8 0 ∷ foldDown 6
+
+unfoldable pub decoder : List Step
+unfolding exponentParts literals riding pairs pairsOfPairs highAndLow byTests onePlace masks
+decoder =
+    exponentParts ++ (literals ++ (pairs ++ (riding 11 10 4 5 ++ (pairsOfPairs ++ (riding 13 9 4 5 ++ (highAndLow ++ (riding 19 20 4 5 ++
+    (byTests ++ (onePlace ++ masks)))))))))
