@@ -50,7 +50,7 @@ back k h = sym (pow-add 2 (52 - k) k) ∙ ap (λ (z : ℕ). 2 ^ z) (there k h)
     there : (k : ℕ) → k ≤ 52 → 52 - k + k ≡ 52
     there k h = omega arith
 
--- ---- the significand: E = e + 1, k fraction bits, x = 2^52 + F; the units are 2^-u, u = k + e
+-- ---- the significand: E = e + 1, x = 2^52 + F, k bits dropped; what is kept counts units of 2^u, u = k + e
 module _ (x e k u : ℕ) (lx : 2 ^ 52 ≤ x) (hx : x < 2 ^ 53) (hk : k ≤ 52) (sum : k + e ≡ u) (he : e < 2045) where
   pu : 2 ^ u ≡ 2 ^ k * 2 ^ e
   pu = ap (λ (z : ℕ). 2 ^ z) (sym sum) ∙ pow-add 2 k e
@@ -113,8 +113,8 @@ module _ (T x k : ℕ) (hk : k ≤ 52) where
 
 -- ---- together
 module _ (a e k u : ℕ) (hk : k ≤ 52) (he : e < 2045) (q : expo a ≡ suc e) (ke : k + e ≡ u) where
-  word : a ≡ (sign a * 2 ^ 11 + e) * 2 ^ 52 + (2 ^ 52 + frac a)
-  word = omega arith
+  fields : a ≡ (sign a * 2 ^ 11 + e) * 2 ^ 52 + (2 ^ 52 + frac a)
+  fields = omega arith
 
   whole : magnitude a / 2 ^ u ≡ (2 ^ 52 + frac a) / 2 ^ k
   whole = ap (λ (M : ℕ). M / 2 ^ u) (magnitude-is a e q) ∙ quotient (2 ^ 52 + frac a) e k u (omega arith) (omega arith) hk ke he
@@ -125,13 +125,13 @@ module _ (a e k u : ℕ) (hk : k ≤ 52) (he : e < 2045) (q : expo a ≡ suc e) 
       let x = 2 ^ 52 + frac a in
       record {
         word = λ c h.
-            ap (λ (z : ℕ). (z / 2 ^ k + c) * 2 ^ k) word ∙ above-word T x k hk c ∙ fields-apart (sign a) e ((x / 2 ^ k + c) * 2 ^ k)
+            ap (λ (z : ℕ). (z / 2 ^ k + c) * 2 ^ k) fields ∙ above-word T x k hk c ∙ fields-apart (sign a) e ((x / 2 ^ k + c) * 2 ^ k)
             ∙ ap (signed (sign a)) (sym (whole-bits x e k u (omega arith) (omega arith) hk ke he (x / 2 ^ k + c) (omega arith) (omega arith)))
             ∙ ap (λ (n : ℕ). multipleOf u (sign a) (n + c)) (sym whole);
         rest =
             ap (λ (M : ℕ). M % 2 ^ u) (magnitude-is a e q) ∙ remainder x e k u (omega arith) (omega arith) hk ke he
-            ∙ ap₂ (λ (r i : ℕ). r * 2 ^ i) (sym (ap (λ (z : ℕ). z % 2 ^ k) word ∙ above-mod T x k hk)) (omega arith);
-        last = λ odd. ap (λ (n : ℕ). n % 2) whole ∙ sym (ap (λ (z : ℕ). z / 2 ^ k % 2) word ∙ above-even T x k hk (λ h. even (odd h)));
+            ∙ ap₂ (λ (r i : ℕ). r * 2 ^ i) (sym (ap (λ (z : ℕ). z % 2 ^ k) fields ∙ above-mod T x k hk)) (omega arith);
+        last = λ odd. ap (λ (n : ℕ). n % 2) whole ∙ sym (ap (λ (z : ℕ). z / 2 ^ k % 2) fields ∙ above-even T x k hk (λ h. even (odd h)));
       }
     where
       fields-apart : (s e w : ℕ) → (s * 2 ^ 11 + e) * 2 ^ 52 + w ≡ s * 2 ^ 63 + (e * 2 ^ 52 + w)

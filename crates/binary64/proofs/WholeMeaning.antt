@@ -4,7 +4,7 @@ use mathlib.Core.Path.{_≡_, refl, sym, ap, ap₂, _∙_}
 use mathlib.Core.Logic.{inl, inr}
 use mathlib.Core.Bool.{cond}
 use Prim.Native.Nat.{ℕ, zero, suc, _+_, _-_, _*_, _/_, _^_, _≤_, _<_}
-use native.Mathlib.Nat.{le-trans, le-of-eq, le-suc, lt-of-lt-of-le, lt-of-le-of-lt, mul-assoc, mul-one, mul-pos, one-mul, mul-le-mul-right, mul-lt-mul-of-pos-right, div-add-mod', mod-lt, div-lt-iff-lt-mul, div-one}
+use native.Mathlib.Nat.{le-trans, le-of-eq, le-suc, lt-of-lt-of-le, lt-of-le-of-lt, mul-assoc, mul-one, mul-pos, one-mul, mul-le-mul-right, div-add-mod', mod-lt, div-lt-iff-lt-mul, div-one}
 use native.Mathlib.Omega.{arith}
 use lib.Arith.{digits-div}
 use lib.Dec.{leb}

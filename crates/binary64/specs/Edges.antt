@@ -13,7 +13,7 @@ pub record Row : Type 0 where
   pub b : ℕ
   pub result : ℕ
 
--- "product (P), sum (S), floor (F)"
+-- "product (P), sum (S), floor (F)", and the later operations
 abbrev pub edge : Operation → ℕ → ℕ → ℕ → Row
 edge o a b r = record { op = o; a = a; b = b; result = r }
 
@@ -33,7 +33,7 @@ edges =
     ∷ edge Floor 0x4330000000000001 0 0x4330000000000001
     ∷ []
 
--- 0.5, 1.5, 2.5 and the same below zero; the largest number below 0.5 and, below zero, the next beyond it; 3, and 3.7; with E = 1074 2^52 − 0.5 of both signs and
+-- 0.5, 1.5, 2.5 and the same below zero; the largest number below 0.5, and the next number below −0.5; 3, and 3.7; with E = 1074 2^52 − 0.5 of both signs and
 -- 2^51 + 0.5, with E = 1075 the next number after 2^52; minus zero, E = 0 with F ≠ 0, and E = 2047. 2^52 + 0.5 is no binary64 number: from 2^52 on all are whole.
 unfoldable pub roundingEdges : List Row
 roundingEdges =

@@ -1,4 +1,5 @@
--- Agreement with IEEE 754, as statements. `mul`, `add`, `ofBits` and `toBits` at `binary64` are the toolchain library's own IEEE 754 operations.
+-- Agreement with IEEE 754, as statements. `mul`, `add`, `ofBits` and `toBits` at `binary64` are the toolchain library's own IEEE 754 operations; so are `round`, the
+-- float nearest to a quotient of two numbers, `up` and `down`, whose quotient is 2^e, and `closest`, a quotient to the nearest whole number, ties to even.
 -- The statements cover operands that are zeros or normal numbers, wherever the exact result is zero or not below 2^-1022 in magnitude;
 -- overflow to E = 2047, F = 0 (an infinity there) and the signs of zeros are included. Outside, document 01 departs from IEEE 754 in these places:
 -- - An operand with E = 0, F ≠ 0 is a zero here, a subnormal number there.

@@ -135,19 +135,16 @@ bit-half a i = ap (λ (x : ℕ). x % 2) (shr-shr a 1 i) ∙ ap (bit a) (one-add 
 half-lt : (w a : ℕ) → a < 2 ^ suc w → a / 2 < 2 ^ w
 half-lt w a h = let p : 2 ^ suc w ≡ 2 ^ w * 2 = pow-suc 2 w in omega arith
 
-pub ext-bits-at : (w a b : ℕ) → a < 2 ^ w → b < 2 ^ w → ((i : ℕ) → i < w → bit a i ≡ bit b i) → a ≡ b
-ext-bits-at zero a b ha hb e = omega arith
-ext-bits-at (suc w) a b ha hb e =
+pub ext-bits : (w a b : ℕ) → a < 2 ^ w → b < 2 ^ w → ((i : ℕ) → i < w → bit a i ≡ bit b i) → a ≡ b
+ext-bits zero a b ha hb e = omega arith
+ext-bits (suc w) a b ha hb e =
     ext-half a b
-    (ext-bits-at w (a / 2) (b / 2) (half-lt w a ha) (half-lt w b hb) (λ i h. bit-half a i ∙ e (suc i) (omega arith) ∙ sym (bit-half b i)))
+    (ext-bits w (a / 2) (b / 2) (half-lt w a ha) (half-lt w b hb) (λ i h. bit-half a i ∙ e (suc i) (omega arith) ∙ sym (bit-half b i)))
     (sym (bit-zero a) ∙ e 0 (zero-lt-suc w) ∙ bit-zero b)
-
-pub ext-bits : (a b : ℕ) → a < 2 ^ 64 → b < 2 ^ 64 → ((i : ℕ) → i < 64 → bit a i ≡ bit b i) → a ≡ b
-ext-bits = ext-bits-at 64
 
 -- ones at the m low places alone
 pub ones-by-bits : (w m a : ℕ) → m ≤ w → a < 2 ^ w → ((i : ℕ) → i < m → bit a i ≡ 1) → ((i : ℕ) → m ≤ i → i < w → bit a i ≡ 0) → a ≡ 2 ^ m - 1
-ones-by-bits w m a l h ones zeros = ext-bits-at w a (2 ^ m - 1) h (lt-of-lt-of-le (ones-lt m) (pow-mono l)) places
+ones-by-bits w m a l h ones zeros = ext-bits w a (2 ^ m - 1) h (lt-of-lt-of-le (ones-lt m) (pow-mono l)) places
   where
     places : (i : ℕ) → i < w → bit a i ≡ bit (2 ^ m - 1) i
     places i g =

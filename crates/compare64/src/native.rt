@@ -6,7 +6,7 @@ pub const SAME: u64 = 1;
 
 pub const DIFFERENT: u64 = 2;
 
-// Where document 01 departs from IEEE 754, and the plain result is what document 01 says.
+// Where the documents depart from IEEE 754, and the plain result is what they say.
 pub const APART: u64 = 3;
 
 const LEAST_NORMAL: u64 = 0x0010_0000_0000_0000;

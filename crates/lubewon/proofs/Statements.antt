@@ -177,7 +177,7 @@ module _ (C : Claims) where
   nearest-plan : Computes nearestPlan (λ a b. nearest a)
   nearest-plan = C .built-ins Nearest .computes
 
-  -- their tape words
+  -- the tape words of truncation and nearest
   truncate-tape : (n : ℕ) → 2 ≤ n → n ≤ 8 → foretoldTape n truncatePlan ≤ 5 * (n * (n - 1))
   truncate-tape = C .built-ins Truncate .cost .tape
 

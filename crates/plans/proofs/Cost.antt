@@ -1,6 +1,6 @@
 -- What the built-in plans cost and read, computed from their own words: a plan's tape words are as many times n(n−1) as it has ANDs, with each
 -- ADD as twelve of them.
-use mathlib.Core.Path.{_≡_, refl, sym, ap₂, _∙_}
+use mathlib.Core.Path.{_≡_, sym, ap₂, _∙_}
 use mathlib.Core.Bool.{Bool, true, false, _&&_, cond}
 use mathlib.Core.List.{List, [], _∷_}
 use Prim.Native.Nat.{ℕ, _+_, _-_, _*_, _/_, _≤_}

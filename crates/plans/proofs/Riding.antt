@@ -3,7 +3,6 @@
 -- Rests on bits' block laws and Fields.
 use mathlib.Core.Path.{_≡_, refl, sym, ap, ap₂, _∙_}
 use Prim.Native.Nat.{ℕ, _+_, _*_, _/_, _%_, _^_, _<_}
-use native.Mathlib.Nat.{mod-eq-of-lt}
 use native.Mathlib.Omega.{arith}
 use Rattle.bits.specs.Ops.{xorW, andW, shlW, shrW}
 use Rattle.bits.proofs.Xor.{xor-comm, xor-zero}
@@ -12,6 +11,7 @@ use Rattle.bits.proofs.Places.{shr-is, shl-exact, and-block, xor-block}
 use Rattle.bits.proofs.Sum.{xor-packed}
 use Rattle.plans.proofs.Fields.{field, low-bits}
 
+-- what rides in x; two words with riders in one AND; the riders, and the word, taken off again
 abbrev pub beside : ℕ → ℕ → ℕ
 beside x l = xorW x (shlW l 9)
 

@@ -24,14 +24,14 @@ abbrev pub lowPlaces : ℕ → ℕ → ℕ
 lowPlaces k w = shrW (shlW w (64 - k)) (64 - k)
 
 -- the one AND of a stage: NOT N with N shifted, and in the k low places NOT F with F's next k places
-unfoldable pub rode : ℕ → ℕ → ℕ → ℕ
-rode k N F = andW (notW (xorW N (lowPlaces k (xorW N F)))) (xorW (shlW N k) (shrW (shlW F (64 - 2 * k)) (64 - k)))
+unfoldable pub stageAnd : ℕ → ℕ → ℕ → ℕ
+stageAnd k N F = andW (notW (xorW N (lowPlaces k (xorW N F)))) (xorW (shlW N k) (shrW (shlW F (64 - 2 * k)) (64 - k)))
 
 unfoldable pub nextF : ℕ → ℕ → ℕ → ℕ
-nextF k N F = xorW F (lowPlaces k (rode k N F))
+nextF k N F = xorW F (lowPlaces k (stageAnd k N F))
 
 unfoldable pub nextN : ℕ → ℕ → ℕ → ℕ
-nextN k N F = xorW N (xorW (rode k N F) (lowPlaces k (rode k N F)))
+nextN k N F = xorW N (xorW (stageAnd k N F) (lowPlaces k (stageAnd k N F)))
 
 -- the six stages, for any rest of the calculation
 abbrev pub staged : (ℕ → ℕ → ℕ) → ℕ → ℕ → ℕ
@@ -59,22 +59,22 @@ module _ (k N F : ℕ) (l : k + k ≤ 64) (hN : N < 2 ^ 64) (hF : F < 2 ^ 64) wh
   low-lt : (w : ℕ) → lowPlaces k w < 2 ^ 64
   low-lt w = shr-lt 64 (shlW w (64 - k)) (64 - k) (shl-lt w (64 - k))
 
-  rode-lt : rode k N F < 2 ^ 64
-  unfolding rode
-  rode-lt = and-lt 64 (notW (xorW N (lowPlaces k (xorW N F)))) _ (not-lt (xorW N (lowPlaces k (xorW N F))))
+  stageAnd-lt : stageAnd k N F < 2 ^ 64
+  unfolding stageAnd
+  stageAnd-lt = and-lt 64 (notW (xorW N (lowPlaces k (xorW N F)))) _ (not-lt (xorW N (lowPlaces k (xorW N F))))
 
   nextN-lt : nextN k N F < 2 ^ 64
   unfolding nextN
-  nextN-lt = let R = rode k N F in xor-lt 64 N (xorW R (lowPlaces k R)) hN (xor-lt 64 R (lowPlaces k R) rode-lt (low-lt R))
+  nextN-lt = let R = stageAnd k N F in xor-lt 64 N (xorW R (lowPlaces k R)) hN (xor-lt 64 R (lowPlaces k R) stageAnd-lt (low-lt R))
 
   nextF-lt : nextF k N F < 2 ^ 64
   unfolding nextF
-  nextF-lt = xor-lt 64 F (lowPlaces k (rode k N F)) hF (low-lt (rode k N F))
+  nextF-lt = xor-lt 64 F (lowPlaces k (stageAnd k N F)) hF (low-lt (stageAnd k N F))
 
-  rode-bit : (i : ℕ) → i < 64
-      → bit (rode k N F) i ≡ min (1 - differ (bit N i) (bit (lowPlaces k (xorW N F)) i)) (differ (bit (shlW N k) i) (bit (F / 2 ^ k % 2 ^ k) i))
-  unfolding rode
-  rode-bit i h =
+  stageAnd-bit : (i : ℕ) → i < 64
+      → bit (stageAnd k N F) i ≡ min (1 - differ (bit N i) (bit (lowPlaces k (xorW N F)) i)) (differ (bit (shlW N k) i) (bit (F / 2 ^ k % 2 ^ k) i))
+  unfolding stageAnd
+  stageAnd-bit i h =
       let low = lowPlaces k (xorW N F) in
       let above = shrW (shlW F (64 - 2 * k)) (64 - k) in
       let e : above ≡ F / 2 ^ k % 2 ^ k = ap (shrW (shlW F (64 - 2 * k))) (omega arith) ∙ field F (64 - 2 * k) k k (omega arith) in
@@ -82,37 +82,37 @@ module _ (k N F : ℕ) (l : k + k ≤ 64) (hN : N < 2 ^ 64) (hF : F < 2 ^ 64) wh
       ∙ ap₂ min (bit-not (xorW N low) i (xor-lt 64 N low hN (low-lt (xorW N F))) h ∙ ap (λ (x : ℕ). 1 - x) (bit-xor N low i))
       (bit-xor (shlW N k) above i ∙ ap (λ (x : ℕ). differ (bit (shlW N k) i) (bit x i)) e)
 
-  rode-low : (i : ℕ) → i < k → bit (rode k N F) i ≡ min (1 - bit F i) (bit F (k + i))
-  rode-low i h =
-      rode-bit i (omega arith)
+  stageAnd-low : (i : ℕ) → i < k → bit (stageAnd k N F) i ≡ min (1 - bit F i) (bit F (k + i))
+  stageAnd-low i h =
+      stageAnd-bit i (omega arith)
       ∙ ap₂ (λ (x y : ℕ). min (1 - x) y)
       (ap (differ (bit N i)) (low-in k (xorW N F) i (omega arith) h ∙ bit-xor N F i)
       ∙ digits2 (λ x y. differ x (differ x y)) (λ x y. y) refl refl refl refl (N / 2 ^ i) (F / 2 ^ i))
       (ap₂ differ (bit-shl-low N k i h) (bit-mod (F / 2 ^ k) k i h ∙ ap (λ (x : ℕ). x % 2) (shr-shr F k i)))
 
-  rode-high : (i : ℕ) → k ≤ i → i < 64 → bit (rode k N F) i ≡ min (1 - bit N i) (bit (shlW N k) i)
-  rode-high i h w =
-      rode-bit i w
+  stageAnd-high : (i : ℕ) → k ≤ i → i < 64 → bit (stageAnd k N F) i ≡ min (1 - bit N i) (bit (shlW N k) i)
+  stageAnd-high i h w =
+      stageAnd-bit i w
       ∙ ap₂ (λ (x y : ℕ). min (1 - x) y) (ap (differ (bit N i)) (low-out k (xorW N F) i (omega arith) h) ∙ differ-zero (bit N i))
       (ap (differ (bit (shlW N k) i)) (bit-mod-above (F / 2 ^ k) k i h) ∙ differ-zero (bit (shlW N k) i))
 
   nextF-low : (i : ℕ) → i < k → bit (nextF k N F) i ≡ max (bit F i) (bit F (k + i))
   unfolding nextF
   nextF-low i h =
-      bit-xor F (lowPlaces k (rode k N F)) i ∙ ap (differ (bit F i)) (low-in k (rode k N F) i (omega arith) h ∙ rode-low i h)
+      bit-xor F (lowPlaces k (stageAnd k N F)) i ∙ ap (differ (bit F i)) (low-in k (stageAnd k N F) i (omega arith) h ∙ stageAnd-low i h)
       ∙ or-digit (F / 2 ^ i) (F / 2 ^ (k + i))
 
   nextN-or : (i : ℕ) → i < 64 → bit (nextN k N F) i ≡ max (bit N i) (bit (shlW N k) i)
   unfolding nextN
   nextN-or i w =
-      let R = rode k N F in
+      let R = stageAnd k N F in
       bit-xor N (xorW R (lowPlaces k R)) i ∙ ap (differ (bit N i)) (bit-xor R (lowPlaces k R) i)
       ∙ elim (lt-or-ge i k) [
         | inl g ↦
             ap (λ (x : ℕ). differ (bit N i) (differ (bit R i) x)) (low-in k R i (omega arith) g)
             ∙ digits2 (λ x y. differ x (differ y y)) (λ x y. max x 0) refl refl refl refl (N / 2 ^ i) (R / 2 ^ i) ∙ ap (max (bit N i)) (sym (bit-shl-low N k i g))
         | inr g ↦
-            ap (differ (bit N i)) (ap₂ differ (rode-high i g w) (low-out k R i (omega arith) g) ∙ differ-zero _) ∙ or-digit (N / 2 ^ i) (shlW N k / 2 ^ i)
+            ap (differ (bit N i)) (ap₂ differ (stageAnd-high i g w) (low-out k R i (omega arith) g) ∙ differ-zero _) ∙ or-digit (N / 2 ^ i) (shlW N k / 2 ^ i)
       ]
 
 -- ---- what every stage carries over holds after all six

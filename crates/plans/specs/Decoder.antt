@@ -1,7 +1,8 @@
 -- The decoder of the exponent that truncation and nearest share: from E one place, 2^(1074−E) for 1023 ≤ E ≤ 1074, and from it the mask W of the bits to drop,
 -- by four ANDs and no ADD. E is 64c + r, r is 8h + l. Two decoders of 3 bits, for h and for l, give a word with one place for r; tests of c ride in places that
 -- these leave free.
--- Registers: 0 the operand, 22 r, 23 c; 9, 10, 11 the literals B0, B1, B2; 12 a pattern; 13 the word that is decoded; 4 and 5 the tests of c; 8 the place, 6 W, 7 U;
+-- Nothing here has to be believed: what the plans compute is proved.
+-- Registers: 0 the operand, 22 r, 23 c; 9, 10, 11 the literals, in which a place is 1 where a bit of r and the same bit of the place differ; 12 a pattern; 13 the word that is decoded; 4 and 5 the tests of c; 8 the place, 6 W, 7 U;
 -- 3, 14, 19 and 20 are scratch.
 use mathlib.Core.List.{List, [], _∷_, _++_}
 use Prim.Native.Nat.{ℕ}
@@ -41,8 +42,8 @@ riding x y m n =
     Shr 13 13 12 ∷ Shl 13 13 12 ∷ Xor 13 13 3 ∷ []
 
 -- registers 4 and 5: bits 0, 1 of c and bits 2, 3, for an AND, after which register 4 says which of these pairs are both 1; register 6: which differ
-unfoldable pub pairs : List Step
-pairs = Shl 4 23 62 ∷ Shr 4 4 62 ∷ Shl 5 23 60 ∷ Shr 5 5 62 ∷ Xor 6 4 5 ∷ []
+unfoldable pub bitPairs : List Step
+bitPairs = Shl 4 23 62 ∷ Shr 4 4 62 ∷ Shl 5 23 60 ∷ Shr 5 5 62 ∷ Xor 6 4 5 ∷ []
 
 -- registers 4 and 5: of either pair whether both are 1, and whether both are 0, for an AND, after which register 4 says whether bits 0 to 3 of c are all 1, and
 -- whether they are all 0
@@ -75,7 +76,7 @@ unfolding foldDown
 masks = Shr 7 23 4 ∷ Not 7 7 ∷ Xor 7 7 3 ∷ Spread 7 7 ∷ Shr 7 7 1 ∷ Shl 6 8 0 ∷ foldDown 6
 
 unfoldable pub decoder : List Step
-unfolding exponentParts literals riding pairs pairsOfPairs highAndLow byTests onePlace masks
+unfolding exponentParts literals riding bitPairs pairsOfPairs highAndLow byTests onePlace masks
 decoder =
-    exponentParts ++ (literals ++ (pairs ++ (riding 11 10 4 5 ++ (pairsOfPairs ++ (riding 13 9 4 5 ++ (highAndLow ++ (riding 19 20 4 5 ++
+    exponentParts ++ (literals ++ (bitPairs ++ (riding 11 10 4 5 ++ (pairsOfPairs ++ (riding 13 9 4 5 ++ (highAndLow ++ (riding 19 20 4 5 ++
     (byTests ++ (onePlace ++ masks)))))))))

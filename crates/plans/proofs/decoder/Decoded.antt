@@ -1,9 +1,9 @@
 -- The decoder as a whole: the word for r and the tests of c, which ride beside it through three ANDs, are what each is alone; the masks follow for every E.
 -- Rests on Words and Riding; what is left after them is computed again, for each E from 960 to 1087, and for each c.
-use mathlib.Core.Path.{_≡_, refl, sym, ap, ap₂, _∙_, subst}
+use mathlib.Core.Path.{_≡_, refl, sym, ap, _∙_, subst}
 use mathlib.Core.Logic.{inl, inr}
 use mathlib.Core.Bool.{Bool, _&&_, cond}
-use Prim.Native.Nat.{ℕ, _+_, _-_, _*_, _/_, _%_, _^_, _≤_, _<_}
+use Prim.Native.Nat.{ℕ, _+_, _-_, _/_, _%_, _^_, _≤_, _<_}
 use native.Mathlib.Omega.{arith}
 use lib.Dec.{T, ltb, leb, eqb, eqb→eq}
 use Rattle.bits.specs.Ops.{xorW, andW, notW, shlW, shrW, spreadW}
@@ -14,7 +14,7 @@ use Rattle.binary64.proofs.Cases.{lt-or-ge, if-lt, if-not-lt, if-le, if-not-le,
 use Rattle.plans.proofs.Fields.{field}
 use Rattle.plans.proofs.Tests.{every, each}
 use Rattle.plans.proofs.Riding.{rode, riders, carrier, riders-are, carrier-is}
-use Rattle.plans.proofs.decoder.Words.{lit2, lit1, lit0, forHigh, forLow, pairA, pairB, testsA, testsB, topTests, alone, testsAlone, placeOf, testsOf, WordsOf, words-of, TestsOf, tests-of}
+use Rattle.plans.proofs.decoder.Words.{lit2, lit1, lit0, forHigh, forLow, pairA, pairB, testsA, testsB, topTests, placeOf, testsOf, WordsOf, words-of, TestsOf, tests-of}
 
 -- ---- what the steps compute
 -- places from 12 up by bit 1 of the tests, places 0 and 1 by bit 0
@@ -105,14 +105,14 @@ unfolding xorW notW shrW spreadW maskU
 far-tested = tt
 
 -- what the decoder leaves: the place, W, U, and whether E = 1022
-pub record Decoded (E p W U h : ℕ) : Type 0 where
+pub record ExponentMasks (E p W U h : ℕ) : Type 0 where
   pub below : E < 1023 → (p ≡ 0) × (W ≡ 0) × (U ≡ 2 ^ 63 - 1)
   pub between : 1023 ≤ E → E < 1075 → (p ≡ 2 ^ (1074 - E)) × (W ≡ 2 ^ (1075 - E) - 1) × (U ≡ 0)
   pub large : 1075 ≤ E → (p ≡ 0) × (W ≡ 0) × (U ≡ 0)
   pub half : h ≡ halfAt E
 
 module _ (E p W U h : ℕ) (pe : p ≡ placeAt E) (we : W ≡ maskAt E) (ue : U ≡ belowAt E) (he : h ≡ halfAt E) where
-  by-ranges : Decoded E p W U h
+  by-ranges : ExponentMasks E p W U h
   by-ranges = record {
     below = λ l. (pe ∙ if-not-le 1023 E _ 0 l, we ∙ if-lt E 1023 0 _ l, ue ∙ if-lt E 1023 _ 0 l);
     between = λ g l. (pe ∙ if-le 1023 E _ 0 g ∙ if-lt E 1075 _ 0 l, we ∙ if-not-lt E 1023 0 _ g, ue ∙ if-not-lt E 1023 _ 0 g);
@@ -131,7 +131,7 @@ module _ (E : ℕ) (hE : E < 2048) where
   word-is = decoded-apart (E % 64) (E / 64) (words-of (E % 64) (omega arith)) (tests-of (E / 64) (omega arith))
 
   abbrev Left : ℕ → Type 0
-  Left h = Decoded E (onePlaceOf h) (maskW (onePlaceOf h)) (maskU (E / 64) (isOne h)) (isHalf h)
+  Left h = ExponentMasks E (onePlaceOf h) (maskW (onePlaceOf h)) (maskU (E / 64) (isOne h)) (isHalf h)
 
   within : 960 ≤ E → E < 1088 → Left word
   within g l =
@@ -182,15 +182,15 @@ lowPart x = shrW (shlW x 6) 58
 abbrev pub highPart : ℕ → ℕ
 highPart x = shrW (shlW x 1) 59
 
--- the place, W, U and whether E = 1022, of an operand
-unfoldable pub wordOf : ℕ → ℕ
-wordOf x = decodedWord (lowPart x) (highPart x)
+-- the decoded word of an operand, and its U
+unfoldable pub decodedOf : ℕ → ℕ
+decodedOf x = decodedWord (lowPart x) (highPart x)
 
 unfoldable pub belowOf : ℕ → ℕ
-belowOf x = maskU (highPart x) (isOne (wordOf x))
+belowOf x = maskU (highPart x) (isOne (decodedOf x))
 
-pub decoded : (x : ℕ) → x < 2 ^ 64 → Decoded (expo x) (onePlaceOf (wordOf x)) (maskW (onePlaceOf (wordOf x))) (belowOf x) (isHalf (wordOf x))
-unfolding wordOf belowOf
+pub decoded : (x : ℕ) → x < 2 ^ 64 → ExponentMasks (expo x) (onePlaceOf (decodedOf x)) (maskW (onePlaceOf (decodedOf x))) (belowOf x) (isHalf (decodedOf x))
+unfolding decodedOf belowOf
 decoded x hx =
     let r : lowPart x ≡ expo x % 64 = field x 6 52 6 (omega arith) ∙ omega arith in
     let c : highPart x ≡ expo x / 64 = field x 1 58 5 (omega arith) ∙ omega arith in

@@ -3,8 +3,8 @@
 -- Rests on Tests and Riding.
 use mathlib.Core.Path.{_≡_}
 use mathlib.Core.Bool.{Bool, _&&_, cond}
-use Prim.Native.Nat.{ℕ, _+_, _-_, _*_, _/_, _%_, _^_, _<_}
-use lib.Dec.{T, ltb, leb, eqb, ltb→lt, eqb→eq}
+use Prim.Native.Nat.{ℕ, _-_, _/_, _%_, _^_, _<_}
+use lib.Dec.{T, ltb, eqb, ltb→lt, eqb→eq}
 use Rattle.bits.specs.Ops.{xorW, andW, notW, shlW, shrW, spreadW}
 use Rattle.word.proofs.Ranges.{both}
 use Rattle.plans.proofs.Tests.{every, each}

@@ -3,11 +3,10 @@
 -- Rests on the decoder for the place and the masks, on Outside and Between for the steps after it, and on binary64's WholeModel for nearest on the word itself.
 use mathlib.Core.Path.{_≡_, refl, sym, ap, ap₂, _∙_}
 use mathlib.Core.Logic.{inl, inr}
-use mathlib.Core.Bool.{cond}
-use Prim.Native.Nat.{ℕ, suc, _+_, _-_, _*_, _/_, _^_, _≤_, _<_}
+use Prim.Native.Nat.{ℕ, suc, _-_, _*_, _/_, _^_, _<_}
 use native.Mathlib.Nat.{add-zero, mul-one, div-one}
 use native.Mathlib.Omega.{arith}
-use lib.Dec.{T, eqb}
+use lib.Dec.{T}
 use lib.ListN.{length, getD}
 use Rattle.plain.specs.Machine.{stepped}
 use Rattle.binary64.specs.Number.{sign, expo}
@@ -18,19 +17,19 @@ use Rattle.plans.specs.Computes.{Computes}
 use Rattle.plans.specs.NearestPlan.{nearestSteps, nearestPlan}
 use Rattle.plans.proofs.Registers.{runSteps, allInPlan, tab}
 use Rattle.plans.proofs.Modelled.{plan-computes}
-use Rattle.plans.proofs.RunOfOnes.{rode, nextF, nextN, runOf, orOf}
+use Rattle.plans.proofs.RunOfOnes.{stageAnd, nextF, nextN, runOf, orOf}
 use Rattle.plans.proofs.decoder.Words.{pattern5, pattern2, lit2, lit1, lit0, forHigh, forLow, pairA, pairB, noPair, testsA, testsB, topTests}
-use Rattle.plans.proofs.decoder.Decoded.{chosenBy, decodedWord, isOne, isHalf, onePlaceOf, fold, maskW, maskU, wordOf, belowOf, decoded}
-use Rattle.plans.proofs.nearest.Rounded.{oneOf, raisedBy}
+use Rattle.plans.proofs.decoder.Decoded.{chosenBy, decodedWord, isOne, isHalf, onePlaceOf, fold, maskW, maskU, decodedOf, belowOf, decoded}
+use Rattle.plans.proofs.nearest.Rounded.{oneOf, raisedWhere}
 use Rattle.plans.proofs.nearest.Parts.{firstOf, othersOf, roundedTo}
 use Rattle.plans.proofs.nearest.Outside.{none-first, half}
 use Rattle.plans.proofs.nearest.Between.{between}
 
 unfoldable pub nearestModel : ℕ → ℕ
-nearestModel x = let p : ℕ = onePlaceOf (wordOf x) in roundedTo x p (maskW p) (belowOf x) (isHalf (wordOf x))
+nearestModel x = let p : ℕ = onePlaceOf (decodedOf x) in roundedTo x p (maskW p) (belowOf x) (isHalf (decodedOf x))
 
 modelled : (f : ℕ → ℕ) → getD (runSteps nearestSteps (tab f 0 32)) 2 0 ≡ nearestModel (f 0)
-unfolding nearestSteps stepped nearestModel roundedTo othersOf firstOf raisedBy oneOf runOf orOf nextN nextF rode pattern5 pattern2 lit2 lit1 lit0 forHigh forLow pairA pairB noPair testsA testsB topTests chosenBy decodedWord isOne isHalf onePlaceOf fold maskW maskU wordOf belowOf
+unfolding nearestSteps stepped nearestModel roundedTo othersOf firstOf raisedWhere oneOf runOf orOf nextN nextF stageAnd pattern5 pattern2 lit2 lit1 lit0 forHigh forLow pairA pairB noPair testsA testsB topTests chosenBy decodedWord isOne isHalf onePlaceOf fold maskW maskU decodedOf belowOf
 modelled f = refl
 
 pub nearest-good : T (allInPlan nearestSteps)
@@ -44,10 +43,10 @@ nearest-length = refl
 -- ---- the ranges of E
 module _ (x : ℕ) (hx : x < 2 ^ 64) where
   -- by what the decoder leaves
-  left : (p W U h : ℕ) → onePlaceOf (wordOf x) ≡ p → maskW (onePlaceOf (wordOf x)) ≡ W → belowOf x ≡ U → isHalf (wordOf x) ≡ h → nearestModel x ≡ roundedTo x p W U h
+  left : (p W U h : ℕ) → onePlaceOf (decodedOf x) ≡ p → maskW (onePlaceOf (decodedOf x)) ≡ W → belowOf x ≡ U → isHalf (decodedOf x) ≡ h → nearestModel x ≡ roundedTo x p W U h
   unfolding nearestModel
   left p W U h pe we ue he =
-      ap₂ (λ (p W : ℕ). roundedTo x p W (belowOf x) (isHalf (wordOf x))) pe we ∙ ap₂ (roundedTo x p W) ue he
+      ap₂ (λ (p W : ℕ). roundedTo x p W (belowOf x) (isHalf (decodedOf x))) pe we ∙ ap₂ (roundedTo x p W) ue he
 
   nearest-model : nearestModel x ≡ nearest x
   nearest-model =

@@ -15,10 +15,10 @@ use Rattle.bits.proofs.Places.{and-low, and-block, bit-zero, bit-not}
 use Rattle.bits.proofs.Sum.{xor-packed}
 use Rattle.plans.proofs.Tests.{every, each}
 use Rattle.plans.proofs.decoder.Decoded.{fold}
-use Rattle.plans.proofs.nearest.Rounded.{oneOf, raisedBy, kept, raised}
+use Rattle.plans.proofs.nearest.Rounded.{oneOf, raisedWhere, kept, raised}
 
 -- ---- the steps after the decoder: p the place, W and U the masks, h whether E = 1022
--- the bits dropped, and the first of them alone
+-- the bits dropped
 abbrev pub bitsOf : ℕ → ℕ → ℕ → ℕ
 bitsOf x W U = andW x (xorW W U)
 
@@ -26,7 +26,7 @@ bitsOf x W U = andW x (xorW W U)
 unfoldable pub firstOf : ℕ → ℕ → ℕ → ℕ
 firstOf x p h = xorW (fold (andW x p)) h
 
--- what decides with it: the other bits dropped, the last bit kept, and in place 63 the opposite of the first
+-- what decides with it: the other bits dropped and the last bit kept (`roundedTo` puts the opposite of the first beside them, in place 63)
 unfoldable pub othersOf : ℕ → ℕ → ℕ → ℕ
 othersOf x p f = xorW (xorW (shrW (shlW f 12) 12) (andW x p)) (andW (shlW p 1) x)
 
@@ -34,7 +34,7 @@ unfoldable pub roundedTo : ℕ → ℕ → ℕ → ℕ → ℕ → ℕ
 roundedTo x p W U h =
     let f : ℕ = bitsOf x W U in
     let b : ℕ = firstOf x p h in
-    raisedBy (xorW x f) W h (xorW (xorW x W) f) (xorW (othersOf x p f) (shlW (notW b) 63)) b
+    raisedWhere (xorW x f) W h (xorW (xorW x W) f) (xorW (othersOf x p f) (shlW (notW b) 63)) b
 
 -- ---- parts of a word
 -- the bit at place j alone
@@ -79,7 +79,7 @@ opposite b h = top (notW b) ∙ ap (λ (v : ℕ). v * 2 ^ 63) (sym (bit-zero (no
 module _ (x p W U h z y F : ℕ) (hW : W < 2 ^ 64) (hF : F < 2 ^ 64) where
   module _ (ze : xorW x (bitsOf x W U) ≡ z) (ye : xorW (xorW x W) (bitsOf x W U) ≡ y)
       (fe : xorW (othersOf x p (bitsOf x W U)) (shlW (notW (firstOf x p h)) 63) ≡ F) where
-    parts : roundedTo x p W U h ≡ raisedBy z W h y F (firstOf x p h)
+    parts : roundedTo x p W U h ≡ raisedWhere z W h y F (firstOf x p h)
     unfolding roundedTo
     parts = rw (ze, ye, fe) refl
 

@@ -1,19 +1,16 @@
 -- The steps of nearest's plan after the decoder, in numbers: whether one is added in the last place kept, and what adding it leaves.
--- Rests on RunOfOnes for the run and the OR beside it, and on Fields.
-use mathlib.Core.Path.{_≡_, refl, sym, ap, ap₂, _∙_, subst}
-use Prim.Native.Nat.{ℕ, zero, suc, _+_, _-_, _*_, _/_, _%_, _^_, _≤_, _<_, min}
-use native.Mathlib.Nat.{mul-zero, mul-one, zero-mul, one-mul, add-zero, mod-lt, div-one}
+-- Rests on RunOfOnes for the run and the OR beside it.
+use mathlib.Core.Path.{_≡_, refl, sym, ap, _∙_}
+use Prim.Native.Nat.{ℕ, _+_, _-_, _*_, _%_, _^_, _<_, min}
+use native.Mathlib.Nat.{mul-zero, mul-one, div-one}
 use native.Mathlib.Omega.{arith}
 use lib.Bits.{differ}
-use lib.Dec.{T, eqb, eqb→eq}
-use lib.Pow.{pow-pos, pow-mono, ones-lt}
 use Rattle.bits.specs.Ops.{xorW, andW, notW, shlW, shrW, spreadW}
-use Rattle.bits.proofs.Digits.{digit, bit, bit-lt, xor-odd}
-use Rattle.bits.proofs.Xor.{xor-zero, xor-zero-l, xor-comm, xor-assoc, and-zero, and-comm, xor·ring}
+use Rattle.bits.proofs.Digits.{xor-odd}
+use Rattle.bits.proofs.Xor.{xor-zero, xor·ring}
 use Rattle.bits.proofs.Bound.{xor-lt, not-lt, shl-lt, shr-lt, spread-lt}
 use Rattle.bits.proofs.Choice.{and-spread}
 use Rattle.bits.proofs.Places.{bit-not}
-use Rattle.plans.proofs.Fields.{spread-run, spread-run-at}
 use Rattle.plans.proofs.RunOfOnes.{runOf, orOf, raise, any, or-lt}
 
 -- ---- what the steps compute
@@ -22,8 +19,8 @@ unfoldable pub oneOf : ℕ → ℕ
 oneOf h = let u : ℕ = spreadW h in xorW (shlW (shrW u 54) 52) (shrW u 63)
 
 -- z the operand with the bits dropped cleared, y the same with those of W set, F and b what decides
-unfoldable pub raisedBy : ℕ → ℕ → ℕ → ℕ → ℕ → ℕ → ℕ
-raisedBy z W h y F b =
+unfoldable pub raisedWhere : ℕ → ℕ → ℕ → ℕ → ℕ → ℕ → ℕ
+raisedWhere z W h y F b =
     xorW z (andW (xorW (xorW (notW (shlW (runOf (notW y) F) 1)) W) (oneOf h)) (spreadW (xorW (notW (orOf (notW y) F)) b)))
 
 pub one-none : oneOf 0 ≡ 0
@@ -51,8 +48,8 @@ module _ (z W h y F b : ℕ) (hW : W < 2 ^ 64) (hF : F < 2 ^ 64) where
   run : ℕ
   run = notW (shlW (runOf (notW y) F) 1)
 
-  chosen : (c : ℕ) → differ (1 - min F 1) (b % 2) ≡ c → raisedBy z W h y F b ≡ xorW z (xorW (xorW run W) (oneOf h) * c)
-  unfolding raisedBy run
+  chosen : (c : ℕ) → differ (1 - min F 1) (b % 2) ≡ c → raisedWhere z W h y F b ≡ xorW z (xorW (xorW run W) (oneOf h) * c)
+  unfolding raisedWhere run
   chosen c e =
       ap (xorW z)
       (and-spread (xorW (xorW (notW (shlW (runOf (notW y) F) 1)) W) (oneOf h)) (xorW (notW (orOf (notW y) F)) b)
@@ -60,11 +57,11 @@ module _ (z W h y F b : ℕ) (hW : W < 2 ^ 64) (hF : F < 2 ^ 64) where
       ∙ ap (λ (v : ℕ). xorW (xorW (notW (shlW (runOf (notW y) F) 1)) W) (oneOf h) * v) (added y F b hF ∙ e))
 
   -- nothing is added
-  pub kept : differ (1 - min F 1) (b % 2) ≡ 0 → raisedBy z W h y F b ≡ z
+  pub kept : differ (1 - min F 1) (b % 2) ≡ 0 → raisedWhere z W h y F b ≡ z
   kept e = chosen 0 e ∙ ap (xorW z) (mul-zero (xorW (xorW run W) (oneOf h))) ∙ xor-zero z
 
   -- one is added in the place above W
-  pub raised : differ (1 - min F 1) (b % 2) ≡ 1 → y < 2 ^ 64 - 1 → xorW z W ≡ y → raisedBy z W h y F b ≡ xorW (y + 1) (oneOf h)
+  pub raised : differ (1 - min F 1) (b % 2) ≡ 1 → y < 2 ^ 64 - 1 → xorW z W ≡ y → raisedWhere z W h y F b ≡ xorW (y + 1) (oneOf h)
   raised e hy zy =
       chosen 1 e ∙ ap (xorW z) (mul-one (xorW (xorW run W) (oneOf h))) ∙ regroup z run W (oneOf h)
       ∙ ap (λ (v : ℕ). xorW (xorW v run) (oneOf h)) zy ∙ ap (λ (v : ℕ). xorW v (oneOf h)) up

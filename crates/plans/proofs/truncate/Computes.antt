@@ -21,17 +21,17 @@ use Rattle.plans.proofs.Registers.{runSteps, allInPlan, tab}
 use Rattle.plans.proofs.Modelled.{plan-computes}
 use Rattle.plans.proofs.Fields.{clear-low}
 use Rattle.plans.proofs.decoder.Words.{pattern5, pattern2, lit2, lit1, lit0, forHigh, forLow, pairA, pairB, noPair, testsA, testsB, topTests}
-use Rattle.plans.proofs.decoder.Decoded.{chosenBy, decodedWord, isOne, onePlaceOf, fold, maskW, maskU, wordOf, belowOf, decoded}
+use Rattle.plans.proofs.decoder.Decoded.{chosenBy, decodedWord, isOne, onePlaceOf, fold, maskW, maskU, decodedOf, belowOf, decoded}
 
 -- the operand without the bits of two masks
 abbrev dropped : ℕ → ℕ → ℕ → ℕ
 dropped x W U = andW x (notW (xorW W U))
 
 unfoldable pub truncateModel : ℕ → ℕ
-truncateModel x = dropped x (maskW (onePlaceOf (wordOf x))) (belowOf x)
+truncateModel x = dropped x (maskW (onePlaceOf (decodedOf x))) (belowOf x)
 
 modelled : (f : ℕ → ℕ) → getD (runSteps truncateSteps (tab f 0 32)) 2 0 ≡ truncateModel (f 0)
-unfolding truncateSteps stepped truncateModel pattern5 pattern2 lit2 lit1 lit0 forHigh forLow pairA pairB noPair testsA testsB topTests chosenBy decodedWord isOne onePlaceOf fold maskW maskU wordOf belowOf
+unfolding truncateSteps stepped truncateModel pattern5 pattern2 lit2 lit1 lit0 forHigh forLow pairA pairB noPair testsA testsB topTests chosenBy decodedWord isOne onePlaceOf fold maskW maskU decodedOf belowOf
 modelled f = refl
 
 pub truncate-good : T (allInPlan truncateSteps)
@@ -51,7 +51,7 @@ module _ (x : ℕ) (hx : x < 2 ^ 64) where
   truncate-model : truncateModel x ≡ truncate x
   unfolding truncateModel
   truncate-model =
-      let W : ℕ = maskW (onePlaceOf (wordOf x)) in
+      let W : ℕ = maskW (onePlaceOf (decodedOf x)) in
       let U : ℕ = belowOf x in
       let d = decoded x hx in
       elim (lt-or-ge (expo x) 1023) [
