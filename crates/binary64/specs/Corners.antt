@@ -1,4 +1,5 @@
--- Document 01's sentences, and those of document 02, No. 1, on zeros, underflow, cancellation, the roundings' outer ranges and E = 2047, as statements: `corners` proves them together.
+-- Document 01's sentences, and those of document 02, No. 1, on zeros, underflow, cancellation, the roundings' outer ranges and E = 2047, as statements:
+-- `corners` proves them together.
 -- Magnitudes are in units of 2^-1074, so 2^-1022 is 2^52 of them; a product's are in units of 2^-2148, so 2^-1022 is 2^1126.
 use mathlib.Core.Path.{_≡_}
 use Prim.Native.Nat.{ℕ, _+_, _-_, _*_, _^_, _≤_, _<_, min}

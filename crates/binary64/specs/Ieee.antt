@@ -43,9 +43,9 @@ SumIsIeee =
     (a b : ℕ) → a < 2 ^ 64 → b < 2 ^ 64 → ZeroOrNormal a → ZeroOrNormal b → ZeroOrLarge 52 (exactSum a b)
     → sum a b ≡ toBits binary64 (add binary64 (ofBits binary64 a) (ofBits binary64 b))
 
--- IEEE 754's round-to-integral operations, which the library does not have, from the text of 754-2019: a number becomes the integral value that the rule chooses for
--- its magnitude, m · 2^e, which is the quotient of m * up e by down e (5.9), with the operand's sign where that is a zero too (6.3); an infinity comes back as it is and a NaN
--- stays one.
+-- IEEE 754's round-to-integral operations, which the library does not have, from the text of 754-2019: a number becomes the integral value that the rule
+-- chooses for its magnitude, m · 2^e, which is the quotient of m * up e by down e (5.9), with the operand's sign where that is a zero too (6.3); an
+-- infinity comes back as it is and a NaN stays one.
 abbrev pub roundToIntegral : (ℕ → ℕ → ℕ) → Float → Float
 roundToIntegral rule nan = nan
 roundToIntegral rule (inf s) = inf s

@@ -86,11 +86,14 @@ stage-left w s y h =
     (omega arith ∙ ap (shlW w) (sym (one-mul s)))
     (y % 2) (bit-lt y)
 
--- ---- clearing the k low bits: AND with NOT (2^k - 1)
+-- ---- clearing the k low bits: XOR with them, or AND with NOT (2^k - 1)
+pub without-low : (x k : ℕ) → xorW x (x % 2 ^ k) ≡ x / 2 ^ k * 2 ^ k
+without-low x k =
+    ap (λ (w : ℕ). xorW w (x % 2 ^ k)) (sym (xor-packed (x / 2 ^ k) k (x % 2 ^ k) (mod-lt x (pow-pos k)) ∙ Pow.split x k))
+    ∙ xor-cancel-r (x / 2 ^ k * 2 ^ k) (x % 2 ^ k)
+
 pub clear-low : (x k : ℕ) → x < 2 ^ 64 → k ≤ 64 → andW x (notW (2 ^ k - 1)) ≡ x / 2 ^ k * 2 ^ k
 clear-low x k h l =
     let o : 2 ^ k - 1 < 2 ^ 64 = lt-of-lt-of-le (ones-lt k) (pow-mono l) in
-    let low : andW x (2 ^ k - 1) ≡ x % 2 ^ k = and-low x k in
-    let sum : xorW (x / 2 ^ k * 2 ^ k) (x % 2 ^ k) ≡ x = xor-packed (x / 2 ^ k) k (x % 2 ^ k) (mod-lt x (pow-pos k)) ∙ Pow.split x k in
-    ap (andW x) (not-xor (2 ^ k - 1) o) ∙ and-xor x (2 ^ k - 1) (2 ^ 64 - 1) ∙ ap₂ xorW low (and-ones x h)
-    ∙ xor-comm (x % 2 ^ k) x ∙ ap (λ (z : ℕ). xorW z (x % 2 ^ k)) (sym sum) ∙ xor-cancel-r (x / 2 ^ k * 2 ^ k) (x % 2 ^ k)
+    ap (andW x) (not-xor (2 ^ k - 1) o) ∙ and-xor x (2 ^ k - 1) (2 ^ 64 - 1) ∙ ap₂ xorW (and-low x k) (and-ones x h)
+    ∙ xor-comm (x % 2 ^ k) x ∙ without-low x k

@@ -2,8 +2,8 @@
 -- by four ANDs and no ADD. E is 64c + r, r is 8h + l. Two decoders of 3 bits, for h and for l, give a word with one place for r; tests of c ride in places that
 -- these leave free.
 -- Nothing here has to be believed: what the plans compute is proved.
--- Registers: 0 the operand, 22 r, 23 c; 9, 10, 11 the literals, in which a place is 1 where a bit of r and the same bit of the place differ; 12 a pattern; 13 the word that is decoded; 4 and 5 the tests of c; 8 the place, 6 W, 7 U;
--- 3, 14, 19 and 20 are scratch.
+-- Registers: 0 the operand, 22 r, 23 c; 9, 10, 11 the literals, in which a place is 1 where a bit of r and the same bit of the place differ; 12 a pattern; 13 the
+-- word that is decoded; 4 and 5 the tests of c, 6 and 7 beside them; at the end 8 the place, 6 W, 7 U; 3, 14, 19 and 20 are scratch.
 use mathlib.Core.List.{List, [], _∷_, _++_}
 use Prim.Native.Nat.{ℕ}
 use Rattle.word.specs.declared.step.Step.{Step}

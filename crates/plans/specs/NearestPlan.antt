@@ -12,8 +12,8 @@ use Rattle.plans.specs.Segments.{foldDown}
 use Rattle.plans.specs.RunOfOnes.{runStage}
 use Rattle.plans.specs.Decoder.{decoder}
 
--- For E from 1023 to 1074: register 16 has the bits dropped, 21 the first of them, alone in its place, 18 the others and the last bit kept. Below, register 16 has all bits but the sign,
--- 21 none, and 18 those of F; from 1075 on none has any.
+-- For E from 1023 to 1074: register 16 has the bits dropped, 21 the first of them, alone in its place, 18 the others and the last bit kept. Below, register 16
+-- has all bits but the sign, 21 none, and 18 those of F; from 1075 on none has any.
 unfoldable pub droppedBits : List Step
 droppedBits =
     Xor 3 6 7 ∷ And 16 0 3 ∷ And 21 0 8 ∷ Shl 18 16 12 ∷ Shr 18 18 12 ∷ Xor 18 18 21 ∷ Shl 3 8 1 ∷ And 3 3 0 ∷ Xor 18 18 3 ∷ []

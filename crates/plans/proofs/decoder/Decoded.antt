@@ -14,7 +14,7 @@ use Rattle.binary64.proofs.Cases.{lt-or-ge, if-lt, if-not-lt, if-le, if-not-le,
 use Rattle.plans.proofs.Fields.{field}
 use Rattle.plans.proofs.Tests.{every, each}
 use Rattle.plans.proofs.Riding.{rode, riders, carrier, riders-are, carrier-is}
-use Rattle.plans.proofs.decoder.Words.{lit2, lit1, lit0, forHigh, forLow, pairA, pairB, testsA, testsB, topTests, placeOf, testsOf, WordsOf, words-of, TestsOf, tests-of}
+use Rattle.plans.proofs.decoder.Words.{folded, lit2, lit1, lit0, forHigh, forLow, pairA, pairB, testsA, testsB, topTests, placeOf, testsOf, WordsOf, words-of, TestsOf, tests-of}
 
 -- ---- what the steps compute
 -- places from 12 up by bit 1 of the tests, places 0 and 1 by bit 0
@@ -41,9 +41,6 @@ isHalf h = shrW (shlW h 62) 63
 unfoldable pub onePlaceOf : ℕ → ℕ
 unfolding isOne
 onePlaceOf h = xorW (shrW h 13) (shlW (isOne h) 51)
-
-abbrev pub folded : ℕ → ℕ → ℕ
-folded s w = xorW w (shrW w s)
 
 unfoldable pub fold : ℕ → ℕ
 fold w = folded 32 (folded 16 (folded 8 (folded 4 (folded 2 (folded 1 w)))))

@@ -15,13 +15,15 @@ use Rattle.plans.proofs.Riding.{Free}
 unfoldable pub pattern5 : ℕ
 pattern5 = shlW (notW 0) 32
 
-abbrev pub finer : ℕ → ℕ → ℕ
-finer s c = xorW c (shrW c s)
+-- each step of a fold, and of a pattern from the one before
+abbrev pub folded : ℕ → ℕ → ℕ
+folded s c = xorW c (shrW c s)
 
 unfoldable pub pattern2 : ℕ
 unfolding pattern5
-pattern2 = finer 4 (finer 8 (finer 16 pattern5))
+pattern2 = folded 4 (folded 8 (folded 16 pattern5))
 
+-- what `highLiteral` and `lowLiteral` of specs/Decoder make of the spread bits t and u with the patterns c and d
 abbrev pub highOf : ℕ → ℕ → ℕ
 highOf t c = xorW (shlW (shrW (xorW t c) 12) 12) (shlW (shrW t 63) 8)
 
@@ -34,11 +36,11 @@ lit2 r = literal (shrW r 5) pattern5 (shrW r 2) pattern2
 
 unfoldable pub lit1 : ℕ → ℕ
 unfolding pattern5 pattern2
-lit1 r = literal (shrW r 4) (finer 16 pattern5) (shrW r 1) (finer 2 pattern2)
+lit1 r = literal (shrW r 4) (folded 16 pattern5) (shrW r 1) (folded 2 pattern2)
 
 unfoldable pub lit0 : ℕ → ℕ
 unfolding pattern5 pattern2
-lit0 r = literal (shrW r 3) (finer 8 (finer 16 pattern5)) (shrW r 0) (finer 1 (finer 2 pattern2))
+lit0 r = literal (shrW r 3) (folded 8 (folded 16 pattern5)) (shrW r 0) (folded 1 (folded 2 pattern2))
 
 -- ---- the places for h and for l
 unfoldable pub forHigh : ℕ → ℕ

@@ -7,7 +7,7 @@ use Prim.Native.Nat.{ℕ, _+_, _-_, _*_, _/_, _%_, _^_, _≤_, _<_}
 use native.Mathlib.Nat.{add-zero, mul-zero, mul-one, mod-eq-of-lt, div-eq-of-lt, div-one, lt-of-lt-of-le}
 use native.Mathlib.Omega.{arith}
 use lib.Dec.{T}
-use lib.ListN.{length, getD}
+use lib.ListN.{getD}
 use lib.Pow.{pow-mono, ones-lt}
 use Rattle.bits.specs.Ops.{xorW, andW, notW, shlW, shrW, spreadW, addW}
 use Rattle.bits.proofs.Digits.{digit}
@@ -22,8 +22,8 @@ use Rattle.binary64.proofs.Cases.{lt-or-ge}
 use Rattle.binary64.proofs.FloorModel.{floor-large, floor-small-plus, floor-small-minus, floor-plus, floor-minus}
 use Rattle.plans.specs.Computes.{Computes}
 use Rattle.plans.specs.FloorPlan.{floorSteps, floorPlan}
-use Rattle.plans.proofs.Registers.{runSteps, allInPlan, tab}
-use Rattle.plans.proofs.Modelled.{plan-computes}
+use Rattle.plans.proofs.Registers.{runSteps, tab}
+use Rattle.plans.proofs.Modelled.{wellFormed, plan-computes}
 use Rattle.plans.proofs.Fields.{low-bits, spread-run-at, clear-low}
 use Rattle.plans.proofs.Lanes.{zeros16}
 use Rattle.plans.proofs.floor.FractionMask.{maskW, maskU}
@@ -43,13 +43,9 @@ modelled : (f : ℕ → ℕ) → getD (runSteps floorSteps (tab f 0 32)) 2 0 ≡
 unfolding floorSteps stepped floorModel lanesOf zeros16 maskW maskU roundDown
 modelled f = refl
 
-pub floor-good : T (allInPlan floorSteps)
+floor-well-formed : T (wellFormed floorSteps)
 unfolding floorSteps
-floor-good = tt
-
-pub floor-length : length floorPlan ≡ 83
-unfolding floorPlan
-floor-length = refl
+floor-well-formed = tt
 
 -- ---- in numbers
 -- the sign's bit, as the steps read it
@@ -154,4 +150,4 @@ module _ (x : ℕ) (hx : x < 2 ^ 64) where
 -- what holds of the plan
 pub floor-plan : Computes floorPlan (λ a b. floor a)
 unfolding floorPlan
-floor-plan = plan-computes floorSteps (λ a b. floor a) floor-good (omega (arith, floor-length)) (λ f words. modelled f ∙ floor-model (f 0) (words 0))
+floor-plan = plan-computes floorSteps (λ a b. floor a) floor-well-formed (λ f words. modelled f ∙ floor-model (f 0) (words 0))

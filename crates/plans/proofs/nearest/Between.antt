@@ -12,10 +12,10 @@ use Rattle.bits.proofs.Xor.{xor-zero, xor-comm, xor-cancel, xor·ring, and-comm
 use Rattle.bits.proofs.Places.{and-low, shl-exact}
 use Rattle.bits.proofs.Sum.{xor-packed}
 use Rattle.binary64.specs.Number.{expo}
-use Rattle.plans.proofs.Fields.{low-bits, bit-mul-lt}
+use Rattle.plans.proofs.Fields.{low-bits, without-low, bit-mul-lt}
 use Rattle.plans.proofs.decoder.Decoded.{fold}
 use Rattle.plans.proofs.nearest.Rounded.{one-none}
-use Rattle.plans.proofs.nearest.Parts.{bitsOf, firstOf, othersOf, roundedTo, one-bit, without-low, fold-bit, opposite, stays, goes-up}
+use Rattle.plans.proofs.nearest.Parts.{bitsOf, firstOf, othersOf, roundedTo, one-bit, fold-bit, opposite, stays, goes-up}
 
 -- ---- a place is decoded, that of the first bit dropped: 1023 ≤ E ≤ 1074
 -- the first bit dropped and one of the others, or the last kept

@@ -7,7 +7,7 @@ use Prim.Native.Nat.{ℕ, suc, _-_, _*_, _/_, _^_, _<_}
 use native.Mathlib.Nat.{add-zero, mul-one, div-one}
 use native.Mathlib.Omega.{arith}
 use lib.Dec.{T}
-use lib.ListN.{length, getD}
+use lib.ListN.{getD}
 use Rattle.plain.specs.Machine.{stepped}
 use Rattle.binary64.specs.Number.{sign, expo}
 use Rattle.binary64.specs.Nearest.{nearest}
@@ -15,8 +15,8 @@ use Rattle.binary64.proofs.Cases.{lt-or-ge, if-eq, if-not-eq}
 use Rattle.binary64.proofs.WholeModel.{nearest-large, nearest-small, nearest-half, nearest-between}
 use Rattle.plans.specs.Computes.{Computes}
 use Rattle.plans.specs.NearestPlan.{nearestSteps, nearestPlan}
-use Rattle.plans.proofs.Registers.{runSteps, allInPlan, tab}
-use Rattle.plans.proofs.Modelled.{plan-computes}
+use Rattle.plans.proofs.Registers.{runSteps, tab}
+use Rattle.plans.proofs.Modelled.{wellFormed, plan-computes}
 use Rattle.plans.proofs.RunOfOnes.{stageAnd, nextF, nextN, runOf, orOf}
 use Rattle.plans.proofs.decoder.Words.{pattern5, pattern2, lit2, lit1, lit0, forHigh, forLow, pairA, pairB, noPair, testsA, testsB, topTests}
 use Rattle.plans.proofs.decoder.Decoded.{chosenBy, decodedWord, isOne, isHalf, onePlaceOf, fold, maskW, maskU, decodedOf, belowOf, decoded}
@@ -32,13 +32,9 @@ modelled : (f : ℕ → ℕ) → getD (runSteps nearestSteps (tab f 0 32)) 2 0 �
 unfolding nearestSteps stepped nearestModel roundedTo othersOf firstOf raisedWhere oneOf runOf orOf nextN nextF stageAnd pattern5 pattern2 lit2 lit1 lit0 forHigh forLow pairA pairB noPair testsA testsB topTests chosenBy decodedWord isOne isHalf onePlaceOf fold maskW maskU decodedOf belowOf
 modelled f = refl
 
-pub nearest-good : T (allInPlan nearestSteps)
+nearest-well-formed : T (wellFormed nearestSteps)
 unfolding nearestSteps
-nearest-good = tt
-
-pub nearest-length : length nearestPlan ≡ 301
-unfolding nearestPlan
-nearest-length = refl
+nearest-well-formed = tt
 
 -- ---- the ranges of E
 module _ (x : ℕ) (hx : x < 2 ^ 64) where
@@ -79,4 +75,4 @@ module _ (x : ℕ) (hx : x < 2 ^ 64) where
 -- what holds of the plan
 pub nearest-plan : Computes nearestPlan (λ a b. nearest a)
 unfolding nearestPlan
-nearest-plan = plan-computes nearestSteps (λ a b. nearest a) nearest-good (omega (arith, nearest-length)) (λ f words. modelled f ∙ nearest-model (f 0) (words 0))
+nearest-plan = plan-computes nearestSteps (λ a b. nearest a) nearest-well-formed (λ f words. modelled f ∙ nearest-model (f 0) (words 0))

@@ -10,10 +10,10 @@ use Rattle.bits.proofs.Xor.{xor-zero, xor-zero-l, xor-comm, and-zero, and-zero-
 use Rattle.bits.proofs.Places.{and-low, xor-block}
 use Rattle.bits.proofs.Sum.{xor-packed}
 use Rattle.binary64.specs.Number.{sign, frac, signed}
-use Rattle.plans.proofs.Fields.{low-bits}
+use Rattle.plans.proofs.Fields.{low-bits, without-low}
 use Rattle.plans.proofs.decoder.Decoded.{fold}
 use Rattle.plans.proofs.nearest.Rounded.{oneOf, one-some}
-use Rattle.plans.proofs.nearest.Parts.{bitsOf, firstOf, othersOf, roundedTo, without-low, fold-none, opposite, stays, goes-up}
+use Rattle.plans.proofs.nearest.Parts.{bitsOf, firstOf, othersOf, roundedTo, fold-none, opposite, stays, goes-up}
 
 -- ---- no place is decoded: the first bit dropped is h, and U decides what is dropped
 module _ (x : ℕ) (hx : x < 2 ^ 64) (k : ℕ) (hk : k ≤ 63) where

@@ -10,9 +10,8 @@ use lib.Dec.{T, eqb, eqb→eq}
 use lib.Pow.{pow-pos}
 use Rattle.bits.specs.Ops.{xorW, andW, notW, shlW, shrW}
 use Rattle.bits.proofs.Digits.{digit, bit}
-use Rattle.bits.proofs.Xor.{xor-cancel-r, and-zero}
+use Rattle.bits.proofs.Xor.{and-zero}
 use Rattle.bits.proofs.Places.{and-low, and-block, bit-zero, bit-not}
-use Rattle.bits.proofs.Sum.{xor-packed}
 use Rattle.plans.proofs.Tests.{every, each}
 use Rattle.plans.proofs.decoder.Decoded.{fold}
 use Rattle.plans.proofs.nearest.Rounded.{oneOf, raisedWhere, kept, raised}
@@ -44,12 +43,6 @@ one-bit x j =
     let o : 1 * 2 ^ j + 0 ≡ 2 ^ j = omega arith in
     ap₂ andW (sym w) (sym o) ∙ and-block j (x / 2 ^ j) 1 (x % 2 ^ j) 0 (mod-lt x (pow-pos j)) (pow-pos j)
     ∙ ap₂ (λ (a b : ℕ). a * 2 ^ j + b) (and-low (x / 2 ^ j) 1) (and-zero (x % 2 ^ j)) ∙ omega arith
-
--- without its k low bits
-pub without-low : (x k : ℕ) → xorW x (x % 2 ^ k) ≡ x / 2 ^ k * 2 ^ k
-without-low x k =
-    ap (λ (w : ℕ). xorW w (x % 2 ^ k)) (sym (div-add-mod' x (2 ^ k)) ∙ sym (xor-packed (x / 2 ^ k) k (x % 2 ^ k) (mod-lt x (pow-pos k))))
-    ∙ xor-cancel-r (x / 2 ^ k * 2 ^ k) (x % 2 ^ k)
 
 -- one place folded is the mask up to it
 fold-tested : T (every 64 (λ j. eqb (fold (2 ^ j)) (2 ^ suc j - 1)))

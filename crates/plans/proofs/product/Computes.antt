@@ -4,35 +4,29 @@ use mathlib.Core.Path.{_≡_, refl, ap, ap₂, _∙_}
 use mathlib.Core.List.{List, _++_}
 use Prim.Native.Nat.{ℕ, _+_, _*_, _/_, _%_, _^_, _<_}
 use native.Mathlib.Nat.{mod-lt}
-use native.Mathlib.Omega.{arith}
 use lib.Dec.{T}
 use lib.ListN.{length, getD}
 use lib.Pow.{pow-pos}
 use Rattle.binary64.specs.Number.{expo}
 use Rattle.binary64.specs.Product.{product}
-use Rattle.plain.specs.Machine.{run}
 use Rattle.plans.specs.Computes.{Computes}
 use Rattle.plans.specs.ProductPlan.{productHead, carryRow, productRow, productRows, withExponents, highHalf, normalise, sticky, tests, roundPack, choose, productEnd, productTail, productSteps, productPlan}
-use Rattle.plans.proofs.Registers.{runSteps, run-steps, run-append, allInPlan}
-use Rattle.plans.proofs.WellFormed.{none-bad, each-good}
+use Rattle.plans.proofs.Registers.{runSteps, run-append}
+use Rattle.plans.proofs.Modelled.{wellFormed, steps-compute}
 use Rattle.plans.proofs.product.Operands.{signif}
 use Rattle.plans.proofs.product.High.{High, high-half, product-lt, product-ge}
 use Rattle.plans.proofs.product.End.{endW, end-run}
 use Rattle.plans.proofs.product.Normal.{normalised}
 use Rattle.plans.proofs.product.Last.{end-is}
 
-pub product-good : T (allInPlan productSteps)
+product-well-formed : T (wellFormed productSteps)
 unfolding productHead carryRow productRow productRows withExponents highHalf normalise sticky tests roundPack choose productEnd productTail productSteps
-product-good = tt
+product-well-formed = tt
 
-pub product-length : length productPlan ≡ 810
-unfolding productHead carryRow productRow productRows withExponents highHalf normalise sticky tests roundPack choose productEnd productTail productSteps productPlan
-product-length = refl
-
-pub product-computes : (cells : List ℕ) → length cells ≡ 32 → ((r : ℕ) → getD cells r 0 < 2 ^ 64)
-    → getD (run productPlan cells) 2 0 ≡ product (getD cells 0 0) (getD cells 1 0)
-unfolding productPlan productSteps productTail
-product-computes cells len words =
+product-run : (cells : List ℕ) → length cells ≡ 32 → ((r : ℕ) → getD cells r 0 < 2 ^ 64)
+    → getD (runSteps productSteps cells) 2 0 ≡ product (getD cells 0 0) (getD cells 1 0)
+unfolding productSteps productTail
+product-run cells len words =
     let x = getD cells 0 0 in
     let y = getD cells 1 0 in
     let r₁ = runSteps productHead cells in
@@ -42,7 +36,7 @@ product-computes cells len words =
     let p = signif x * signif y in
     let l = p % 2 ^ 53 in
     ap (λ (c : List ℕ). getD c 2 0)
-    (run-steps productSteps product-good cells ∙ run-append productHead (productRows 52 ++ (highHalf ++ productEnd)) cells
+    (run-append productHead (productRows 52 ++ (highHalf ++ productEnd)) cells
     ∙ run-append (productRows 52) (highHalf ++ productEnd) r₁ ∙ run-append highHalf productEnd r₂)
     ∙ end-run r₃ (h .len)
     ∙ ap₂ (λ (i j : ℕ). endW i j (getD r₃ 12 0) (getD r₃ 7 0) (getD r₃ 11 0)) (h .hx) (h .hy)
@@ -53,4 +47,4 @@ product-computes cells len words =
 -- what holds of the plan
 pub product-plan : Computes productPlan product
 unfolding productPlan
-product-plan = record { short = omega (arith, product-length); none-bad = none-bad productSteps product-good; entries = each-good productPlan (none-bad productSteps product-good); result = product-computes }
+product-plan = steps-compute productSteps product product-well-formed product-run

@@ -2,12 +2,11 @@
 -- The cases are those of binary64's SumCases, for operands in order. Rests on all the files of the sum's plan.
 use mathlib.Core.Path.{_≡_, sym, ap, ap₂, _∙_}
 use mathlib.Core.Logic.{_⊎_, inl, inr}
-use mathlib.Core.List.{List}
 use Prim.Native.Nat.{ℕ, _+_, _-_, _*_, _/_, _%_, _^_, _≤_, _<_}
 use native.Mathlib.Nat.{mod-lt, mod-eq-of-lt, add-zero, sub-zero, eq-zero-or-pos, add-mod, pos-of-ne-zero}
 use native.Mathlib.Omega.{arith}
 use lib.Count.{leadingZeros}
-use lib.ListN.{length, getD}
+use lib.Dec.{T}
 use lib.Pow.{pow-pos}
 use Rattle.bits.specs.Ops.{xorW, shrW}
 use Rattle.bits.proofs.Digits.{bit}
@@ -21,12 +20,11 @@ use Rattle.binary64.specs.Steps.{aligned, encodedAt, encoded}
 use Rattle.binary64.proofs.Cases.{lt-or-ge}
 use Rattle.binary64.proofs.Words.{sign-cases}
 use Rattle.binary64.proofs.SumCases.{sum-comm, zeros-like, zeros-unlike, like-signs, differ, cancelled, unlike-signs, aligned-lt, aligned-none}
-use Rattle.plain.specs.Machine.{run}
 use Rattle.plans.specs.Computes.{Computes}
 use Rattle.plans.specs.SumPlan.{sumSteps, sumPlan}
-use Rattle.plans.proofs.WellFormed.{none-bad, each-good}
+use Rattle.plans.proofs.Modelled.{wellFormed, plan-computes}
 use Rattle.plans.proofs.Lanes.{isZero, not-zero}
-use Rattle.plans.proofs.sum.Run.{significand9, smallW, alignZ, addedW, leadingW, normalW, lessW, closing, sumW, sumModel, sum-run, sum-good, sum-length, apartW}
+use Rattle.plans.proofs.sum.Run.{significand9, smallW, alignZ, addedW, leadingW, normalW, lessW, closing, sumW, sumModel, sum-run, apartW}
 use Rattle.plans.proofs.sum.Order.{InOrder, apart-yes, larger-yes, smaller-yes, apart-no, larger-no, smaller-no}
 use Rattle.plans.proofs.sum.Shift.{significand10-is}
 use Rattle.plans.proofs.sum.Align.{Z-lt, no-exponent, aligned-is}
@@ -261,12 +259,11 @@ model-sum x y hx hy =
           ∙ ap (λ (p : ℕ). sumW x y p (xorW x y)) (apart-yes x y hx hy l) ∙ ordered-sum x y D o
     ]
 
--- the plan, from any 32 cells
-pub sum-computes : (cells : List ℕ) → length cells ≡ 32 → ((r : ℕ) → getD cells r 0 < 2 ^ 64)
-    → getD (run sumPlan cells) 2 0 ≡ sum (getD cells 0 0) (getD cells 1 0)
-sum-computes cells h w = sum-run cells h ∙ model-sum (getD cells 0 0) (getD cells 1 0) (w 0) (w 1)
+sum-well-formed : T (wellFormed sumSteps)
+unfolding sumSteps
+sum-well-formed = tt
 
 -- what holds of the plan
 pub sum-plan : Computes sumPlan sum
 unfolding sumPlan
-sum-plan = record { short = omega (arith, sum-length); none-bad = none-bad sumSteps sum-good; entries = each-good sumPlan (none-bad sumSteps sum-good); result = sum-computes }
+sum-plan = plan-computes sumSteps sum sum-well-formed (λ f words. sum-run f ∙ model-sum (f 0) (f 1) (words 0) (words 1))

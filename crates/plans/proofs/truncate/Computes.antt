@@ -7,7 +7,7 @@ use Prim.Native.Nat.{ℕ, _-_, _*_, _/_, _^_, _≤_, _<_}
 use native.Mathlib.Nat.{add-zero, mul-one, div-one}
 use native.Mathlib.Omega.{arith}
 use lib.Dec.{T}
-use lib.ListN.{length, getD}
+use lib.ListN.{getD}
 use Rattle.bits.specs.Ops.{xorW, andW, notW}
 use Rattle.bits.proofs.Xor.{xor-zero, xor-zero-l}
 use Rattle.plain.specs.Machine.{stepped}
@@ -17,8 +17,8 @@ use Rattle.binary64.proofs.Cases.{lt-or-ge}
 use Rattle.binary64.proofs.WholeModel.{truncate-large, truncate-small, truncate-between}
 use Rattle.plans.specs.Computes.{Computes}
 use Rattle.plans.specs.TruncatePlan.{truncateSteps, truncatePlan}
-use Rattle.plans.proofs.Registers.{runSteps, allInPlan, tab}
-use Rattle.plans.proofs.Modelled.{plan-computes}
+use Rattle.plans.proofs.Registers.{runSteps, tab}
+use Rattle.plans.proofs.Modelled.{wellFormed, plan-computes}
 use Rattle.plans.proofs.Fields.{clear-low}
 use Rattle.plans.proofs.decoder.Words.{pattern5, pattern2, lit2, lit1, lit0, forHigh, forLow, pairA, pairB, noPair, testsA, testsB, topTests}
 use Rattle.plans.proofs.decoder.Decoded.{chosenBy, decodedWord, isOne, onePlaceOf, fold, maskW, maskU, decodedOf, belowOf, decoded}
@@ -34,13 +34,9 @@ modelled : (f : ℕ → ℕ) → getD (runSteps truncateSteps (tab f 0 32)) 2 0 
 unfolding truncateSteps stepped truncateModel pattern5 pattern2 lit2 lit1 lit0 forHigh forLow pairA pairB noPair testsA testsB topTests chosenBy decodedWord isOne onePlaceOf fold maskW maskU decodedOf belowOf
 modelled f = refl
 
-pub truncate-good : T (allInPlan truncateSteps)
+truncate-well-formed : T (wellFormed truncateSteps)
 unfolding truncateSteps
-truncate-good = tt
-
-pub truncate-length : length truncatePlan ≡ 169
-unfolding truncatePlan
-truncate-length = refl
+truncate-well-formed = tt
 
 -- ---- the ranges of E
 module _ (x : ℕ) (hx : x < 2 ^ 64) where
@@ -71,4 +67,4 @@ module _ (x : ℕ) (hx : x < 2 ^ 64) where
 -- what holds of the plan
 pub truncate-plan : Computes truncatePlan (λ a b. truncate a)
 unfolding truncatePlan
-truncate-plan = plan-computes truncateSteps (λ a b. truncate a) truncate-good (omega (arith, truncate-length)) (λ f words. modelled f ∙ truncate-model (f 0) (words 0))
+truncate-plan = plan-computes truncateSteps (λ a b. truncate a) truncate-well-formed (λ f words. modelled f ∙ truncate-model (f 0) (words 0))
