@@ -20,7 +20,7 @@ round-half : roundNE (2 ^ 53) 1 ≡ 2 ^ 52
 unfolding roundNE
 round-half = refl
 
-pub exact-bits : (W e : ℕ) → 2 ^ 52 ≤ W → W ≤ 2 ^ 53 → e < 2045 → magBits 52 (W * 2 ^ e) ≡ e * 2 ^ 52 + W
+pub exact-bits : (W e : ℕ) → 2 ^ 52 ≤ W → W ≤ 2 ^ 53 → e < 2046 → magBits 52 (W * 2 ^ e) ≡ e * 2 ^ 52 + W
 exact-bits W e lo hi he =
     elim (eq-or-lt-of-le hi) [
       | inl q ↦
@@ -37,10 +37,10 @@ exact-bits W e lo hi he =
         let l : 2 ^ 53 < 2 ^ 54 = omega arith in
         lt-of-lt-of-le (mul-lt-mul-of-pos-right l (pow-pos e)) (le-of-eq (sym (pow-add 2 54 e) ∙ ap (λ (z : ℕ). 2 ^ z) (suc-add 53 e)))
 
-    carry : (e W : ℕ) → e < 2045 → W ≡ 2 ^ 53 → packed (1 + e) (2 ^ 52) ≡ e * 2 ^ 52 + W
+    carry : (e W : ℕ) → e < 2046 → W ≡ 2 ^ 53 → packed (1 + e) (2 ^ 52) ≡ e * 2 ^ 52 + W
     carry e W h q = omega arith
 
-    plain : (e W : ℕ) → e < 2045 → W < 2 ^ 53 → packed e W ≡ e * 2 ^ 52 + W
+    plain : (e W : ℕ) → e < 2046 → W < 2 ^ 53 → packed e W ≡ e * 2 ^ 52 + W
     plain e W h q = omega arith
 
 -- ---- k bits of 52
@@ -51,7 +51,7 @@ back k h = sym (pow-add 2 (52 - k) k) ∙ ap (λ (z : ℕ). 2 ^ z) (there k h)
     there k h = omega arith
 
 -- ---- the significand: E = e + 1, x = 2^52 + F, k bits dropped; what is kept counts units of 2^u, u = k + e
-module _ (x e k u : ℕ) (lx : 2 ^ 52 ≤ x) (hx : x < 2 ^ 53) (hk : k ≤ 52) (sum : k + e ≡ u) (he : e < 2045) where
+module _ (x e k u : ℕ) (lx : 2 ^ 52 ≤ x) (hx : x < 2 ^ 53) (hk : k ≤ 52) (sum : k + e ≡ u) (he : e < 2046) where
   pu : 2 ^ u ≡ 2 ^ k * 2 ^ e
   pu = ap (λ (z : ℕ). 2 ^ z) (sym sum) ∙ pow-add 2 k e
 
@@ -112,7 +112,7 @@ module _ (T x k : ℕ) (hk : k ≤ 52) where
       go (suc j) h = block-odd T j (x / 2 ^ k)
 
 -- ---- together
-module _ (a e k u : ℕ) (hk : k ≤ 52) (he : e < 2045) (q : expo a ≡ suc e) (ke : k + e ≡ u) where
+module _ (a e k u : ℕ) (hk : k ≤ 52) (he : e < 2046) (q : expo a ≡ suc e) (ke : k + e ≡ u) where
   fields : a ≡ (sign a * 2 ^ 11 + e) * 2 ^ 52 + (2 ^ 52 + frac a)
   fields = omega arith
 
@@ -143,7 +143,7 @@ module _ (a e k u : ℕ) (hk : k ≤ 52) (he : e < 2045) (q : expo a ≡ suc e) 
 pub dropping-low-bits : DroppingLowBits
 dropping-low-bits a k u lo hi hk s = go (expo a) refl lo hi s
   where
-    go : (E : ℕ) → expo a ≡ E → 1 ≤ E → E ≤ 2045 → E + k ≡ suc u → Dropped a k u
+    go : (E : ℕ) → expo a ≡ E → 1 ≤ E → E ≤ 2046 → E + k ≡ suc u → Dropped a k u
     go zero q l h s = absurd (omega arith)
     go (suc e) q l h s = dropped a e k u hk (omega arith) q (omega arith)
 

@@ -7,7 +7,7 @@
 --   or, if it is a product just below 2^-1022, to that least normal number (0010000000000001 times 3FEFFFFFFFFFFFFE; 001FFFFFFFFFFFFF times 3FE0000000000000).
 -- - An operand with E = 2047 is a number here, an infinity or NaN there.
 -- - The floor of minus zero is -1 here, minus zero there. Floor has no statement in this file: Meaning says what it is.
--- Truncation and nearest agree for every zero and normal operand.
+-- Truncation and nearest agree for every zero and normal operand. The first and the third of these places concern them too; what they give there is not compared here.
 use mathlib.Core.Path.{_≡_}
 use mathlib.Core.Logic.{_⊎_}
 use mathlib.Core.Bool.{cond}

@@ -4,8 +4,8 @@ use Prim.Native.Nat.{ℕ, suc, _+_, _-_, _*_, _/_, _%_, _^_, _≤_}
 use Rattle.binary64.specs.Number.{sign, expo, magnitude, signed}
 use Rattle.binary64.specs.Rounding.{magBits}
 
--- the number with sign s and magnitude n · 2^u, in a magnitude's units of 2^-1074. Where it is used it has at most 53 significant bits and no more than E = 2046,
--- so that `magBits` gives it as it is.
+-- the number with sign s and magnitude n · 2^u, in a magnitude's units of 2^-1074. Where it is used it is zero or not below 2^-1022, and has at most 53 significant
+-- bits and no more than E = 2047, F = 0, so that `magBits` gives it as it is.
 abbrev pub multipleOf : ℕ → ℕ → ℕ → ℕ
 multipleOf u s n = signed s (magBits 52 (n * 2 ^ u))
 
@@ -23,6 +23,6 @@ pub record Dropped (a k u : ℕ) : Type 0 where
   pub last : (k ≡ 52 → expo a % 2 ≡ 1) → magnitude a / 2 ^ u % 2 ≡ a / 2 ^ k % 2
 
 -- document 02, No. 1: "All three roundings share one fact about dropping low bits, proved for any count of them." Any count of the 52 bits of F, of any number that is not
--- zero and has a larger one with the next E. The roundings drop as many as stand for the fraction: u = 1074.
+-- zero and below E = 2047, where a result stops at F = 0. The roundings drop as many as stand for the fraction: u = 1074.
 abbrev pub DroppingLowBits : Type 0
-DroppingLowBits = (a k u : ℕ) → 1 ≤ expo a → expo a ≤ 2045 → k ≤ 52 → expo a + k ≡ suc u → Dropped a k u
+DroppingLowBits = (a k u : ℕ) → 1 ≤ expo a → expo a ≤ 2046 → k ≤ 52 → expo a + k ≡ suc u → Dropped a k u

@@ -137,7 +137,7 @@ module _ (C : Claims) where
   to-nearest : (a : ℕ) → a < 2 ^ 64 → NearestWhole a (nearest a)
   to-nearest = C .nearest-means
 
-  dropped : (a k u : ℕ) → 1 ≤ expo a → expo a ≤ 2045 → k ≤ 52 → expo a + k ≡ suc u → Dropped a k u
+  dropped : (a k u : ℕ) → 1 ≤ expo a → expo a ≤ 2046 → k ≤ 52 → expo a + k ≡ suc u → Dropped a k u
   dropped = C .dropping-low-bits
 
   -- IEEE 754's, for operands that are zeros or normal numbers, wherever the exact result is zero or not below 2^-1022

@@ -2,8 +2,9 @@
 -- by four ANDs and no ADD. E is 64c + r, r is 8h + l. Two decoders of 3 bits, for h and for l, give a word with one place for r; tests of c ride in places that
 -- these leave free.
 -- Nothing here has to be believed: what the plans compute is proved.
--- Registers: 0 the operand, 22 r, 23 c; 9, 10, 11 the literals, in which a place is 1 where a bit of r and the same bit of the place differ; 12 a pattern; 13 the
--- word that is decoded; 4 and 5 the tests of c, 6 and 7 beside them; at the end 8 the place, 6 W, 7 U; 3, 14, 19 and 20 are scratch.
+-- Registers: 0 the operand, 22 r, 23 c; 9, 10, 11 the literals, in which a place is 1 where a bit of r and the same bit of the place differ (and place 8 the
+-- bit itself, for r from 56 on), until tests are put beside them; 12 a pattern; 13 the decoded word; 4 and 5 the tests of c. At the end 8 is
+-- the place, 6 W, 7 U; before that 6 and 7, and always 3, 14, 19 and 20, are scratch.
 use mathlib.Core.List.{List, [], _∷_, _++_}
 use Prim.Native.Nat.{ℕ}
 use Rattle.word.specs.declared.step.Step.{Step}
@@ -41,11 +42,12 @@ riding x y m n =
     Shl m m 9 ∷ Xor x x m ∷ Shl n n 9 ∷ Xor y y n ∷ And 13 x y ∷ Shl m 13 52 ∷ Shr m m 61 ∷ Shl 3 13 55 ∷ Shr 3 3 55 ∷
     Shr 13 13 12 ∷ Shl 13 13 12 ∷ Xor 13 13 3 ∷ []
 
--- registers 4 and 5: bits 0, 1 of c and bits 2, 3, for an AND, after which register 4 says which of these pairs are both 1; register 6: which differ
+-- register 4: bits 0 and 1 of c, register 5: bits 2 and 3, for an AND, after which register 4 says whether bits 0 and 2 are both 1, and whether bits 1 and 3
+-- are; register 6: whether they differ
 unfoldable pub bitPairs : List Step
 bitPairs = Shl 4 23 62 ∷ Shr 4 4 62 ∷ Shl 5 23 60 ∷ Shr 5 5 62 ∷ Xor 6 4 5 ∷ []
 
--- registers 4 and 5: of either pair whether both are 1, and whether both are 0, for an AND, after which register 4 says whether bits 0 to 3 of c are all 1, and
+-- registers 4 and 5: of bits 0 and 2, and of bits 1 and 3, whether both are 1, and whether both are 0, for an AND, after which register 4 says whether bits 0 to 3 of c are all 1, and
 -- whether they are all 0
 unfoldable pub pairsOfPairs : List Step
 pairsOfPairs =
@@ -53,7 +55,7 @@ pairsOfPairs =
     Shl 4 4 63 ∷ Shr 4 4 63 ∷ Xor 4 4 7 ∷ []
 
 -- registers 19 and 20: the places for h, and those for l eight times over, for an AND that leaves place 63 − r, from 12 up, with place 0 for r = 63 and place 1 for
--- r = 62; register 5: bit 4 of c and its opposite, for the tests
+-- r = 62; register 5: the opposite of bit 4 of c in place 0 and the bit in place 1, for the tests: c = 15 and c = 16
 unfoldable pub highAndLow : List Step
 highAndLow =
     Shl 14 13 56 ∷ Shr 14 14 56 ∷ Shl 3 14 8 ∷ Xor 14 14 3 ∷ Shl 3 14 16 ∷ Xor 14 14 3 ∷ Shl 3 14 32 ∷ Xor 14 14 3 ∷

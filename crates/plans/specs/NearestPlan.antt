@@ -1,6 +1,6 @@
 -- The built-in plan of nearest (document 02, No. 1), with the operand in register 0 and the result in 2: the bits to drop, by the decoder, are cleared, and
 -- where the first of them is 1 and a later one or the last bit kept is too, one is added in the last place kept. Adding one flips a run of ones and the place
--- above it, so it is an exclusive-or with that run.
+-- above it, so it is an exclusive-or with ones there.
 -- Registers: 8 the place of the first bit dropped, 6 W, 7 U, 13 the decoded word; 15 whether E = 1022, 16 the bits dropped, 17 the run, 18 what decides, 21 the first bit
 -- dropped; 3, 4, 5, 19 and 20 are scratch.
 use mathlib.Core.List.{List, [], _∷_, _++_, map}
@@ -31,7 +31,8 @@ runAndOr =
     Xor 17 0 6 ∷ Xor 17 17 16 ∷ Not 17 17 ∷
     (runStage 32 ++ (runStage 16 ++ (runStage 8 ++ (runStage 4 ++ (runStage 2 ++ runStage 1)))))
 
--- register 3: what adding one in the last place kept flips, or the bits of 1, 1023 · 2^52, for E = 1022; then the result
+-- register 3: what adding one in the last place kept flips, or the bits of 1, 1023 · 2^52, for E = 1022; register 18: in place 0 whether it is added, since the OR is 1
+-- where the first bit dropped is 0, and else says whether another decides for it; then the result
 unfoldable pub raiseRounded : List Step
 raiseRounded =
     Shl 3 17 1 ∷ Not 3 3 ∷ Xor 3 3 6 ∷ Spread 4 15 ∷ Shr 5 4 54 ∷ Shl 5 5 52 ∷ Shr 4 4 63 ∷ Xor 5 5 4 ∷ Xor 3 3 5 ∷

@@ -1,6 +1,6 @@
 -- A stage that finds a run of ones and an OR together, with one AND.
--- Registers: 17 the word N whose run is found, 18 the word F whose OR is taken; 3, 4, 19 and 20 are scratch. Nothing here has to be believed: what the
--- plans compute is proved.
+-- Registers: 17 N, the opposite of the word whose low run of ones is found, so that N has zeros there, 18 the word F whose OR is taken;
+-- 3, 4, 19 and 20 are scratch. Nothing here has to be believed: what the plans compute is proved.
 use mathlib.Core.List.{List, [], _∷_}
 use Prim.Native.Nat.{ℕ, _-_, _*_}
 use Rattle.word.specs.declared.step.Step.{Step}
