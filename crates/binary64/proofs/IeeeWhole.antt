@@ -40,32 +40,33 @@ zero-or-large zero = inl (zero-mul (2 ^ 1074))
 zero-or-large (suc n) = inr (multiple-ge (suc n) 1074 (omega arith) (omega arith))
 
 -- ---- one rule
-module _ (rule : ℕ → ℕ → ℕ) (R : WholeRule rule) where
+module _ (rule : Bool → ℕ → ℕ → ℕ) (R : (s : Bool) → WholeRule (rule s)) where
   -- rounding to an integral value sees only the operand's value, over any denominator
   integral : (x : Float) (s : Bool) (M : ℕ) → HasValue x s M (2 ^ low binary64)
-      → roundToIntegral rule x ≡ round binary64 s (rule M (2 ^ 1074) * 2 ^ 1074) (2 ^ low binary64)
+      → roundToIntegral rule x ≡ round binary64 s (rule s M (2 ^ 1074) * 2 ^ 1074) (2 ^ low binary64)
   integral nan s M h = absurd h
   integral (inf t) s M h = absurd h
   integral (fin t m e) s M h =
-      let n = rule M (2 ^ 1074) in
-      ap₂ (λ (i : Bool) (x : ℕ). round binary64 i x 1) (h .0) (R .same (m * up e) (down e) M (2 ^ 1074) (down-pos e) (pow-pos 1074) (h .1))
+      let n = rule s M (2 ^ 1074) in
+      ap (λ (i : Bool). round binary64 i (rule i (m * up e) (down e)) 1) (h .0) ∙ ap (λ (x : ℕ). round binary64 s x 1) (R s .same (m * up e) (down e) M (2 ^ 1074) (down-pos e) (pow-pos 1074) (h .1))
       ∙ round-same binary64 s n 1 (n * 2 ^ 1074) (2 ^ 1074) (omega arith) (pow-pos 1074) (sym (mul-one (n * 2 ^ 1074)))
 
   -- in document 01's terms, E from 1075 on included
-  integral-word : (a : ℕ) → a < 2 ^ 64 → ZeroOrNormal a → toBits binary64 (roundToIntegral rule (ofBits binary64 a)) ≡ wholeNumber (sign a) (rule (magnitude a) (2 ^ 1074))
+  integral-word : (a : ℕ) → a < 2 ^ 64 → ZeroOrNormal a
+      → toBits binary64 (roundToIntegral rule (ofBits binary64 a)) ≡ wholeNumber (sign a) (rule (negative a) (magnitude a) (2 ^ 1074))
   integral-word a ha z =
-      let M = rule (magnitude a) (2 ^ 1074) * 2 ^ 1074 in
+      let M = rule (negative a) (magnitude a) (2 ^ 1074) * 2 ^ 1074 in
       ap (toBits binary64) (integral (ofBits binary64 a) (negative a) (magnitude a) (value a z))
-      ∙ round-52 (negative a) M (zero-or-large (rule (magnitude a) (2 ^ 1074)))
+      ∙ round-52 (negative a) M (zero-or-large (rule (negative a) (magnitude a) (2 ^ 1074)))
       ∙ ap (λ (s : ℕ). signed s (magBits 52 M)) (sym (negative-is a ha))
 
-  pub rounded-is-ieee : (a : ℕ) → a < 2 ^ 64 → ZeroOrNormal a → roundedBy rule a ≡ toBits binary64 (roundToIntegral rule (ofBits binary64 a))
+  pub rounded-is-ieee : (a : ℕ) → a < 2 ^ 64 → ZeroOrNormal a → roundedBy (rule (negative a)) a ≡ toBits binary64 (roundToIntegral rule (ofBits binary64 a))
   rounded-is-ieee a ha z =
       elim (lt-or-ge (expo a) 1075) [
-        | inl l ↦ if-not-le 1075 (expo a) a (wholeNumber (sign a) (rule (magnitude a) (2 ^ 1074))) l
+        | inl l ↦ if-not-le 1075 (expo a) a (wholeNumber (sign a) (rule (negative a) (magnitude a) (2 ^ 1074))) l
         | inr h ↦
-            if-le 1075 (expo a) a (wholeNumber (sign a) (rule (magnitude a) (2 ^ 1074))) h
-            ∙ sym (ap (λ (m : ℕ). signed (sign a) (magBits 52 m)) (rule-large rule R a h) ∙ normal-word a (omega arith) (normal z h))
+            if-le 1075 (expo a) a (wholeNumber (sign a) (rule (negative a) (magnitude a) (2 ^ 1074))) h
+            ∙ sym (ap (λ (m : ℕ). signed (sign a) (magBits 52 m)) (rule-large (rule (negative a)) (R (negative a)) a h) ∙ normal-word a (omega arith) (normal z h))
       ]
       ∙ sym (integral-word a ha z)
     where

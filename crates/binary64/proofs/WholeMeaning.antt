@@ -2,7 +2,7 @@
 -- number for a fraction, and what holds of every such rule is proved once. Rests on Meaning, and knows nothing of a word's bits but what magnitudes say.
 use mathlib.Core.Path.{_≡_, refl, sym, ap, ap₂, _∙_}
 use mathlib.Core.Logic.{inl, inr}
-use mathlib.Core.Bool.{cond}
+use mathlib.Core.Bool.{Bool, false, cond}
 use Prim.Native.Nat.{ℕ, zero, suc, _+_, _-_, _*_, _/_, _^_, _≤_, _<_}
 use native.Mathlib.Nat.{le-trans, le-of-eq, le-suc, lt-of-lt-of-le, lt-of-le-of-lt, mul-assoc, mul-one, mul-pos, one-mul, mul-le-mul-right, div-add-mod', mod-lt, div-lt-iff-lt-mul, div-one}
 use native.Mathlib.Omega.{arith}
@@ -91,11 +91,11 @@ pub record WholeRule (rule : ℕ → ℕ → ℕ) : Type 0 where
   pub whole : (n : ℕ) → rule n 1 ≡ n
   pub next : (a b : ℕ) → rule a b ≤ suc (a / b)
 
-pub toward-zero : WholeRule towardZero
-toward-zero = record { same = div-same; whole = div-one; next = λ a b. le-suc (a / b) }
+pub toward-zero : (s : Bool) → WholeRule (towardZero s)
+toward-zero s = record { same = div-same; whole = div-one; next = λ a b. le-suc (a / b) }
 
-pub ties-to-even : WholeRule tiesToEven
-ties-to-even = record { same = closest-same; whole = λ n. unfold roundNE in round-none n; next = closest-up }
+pub ties-to-even : (s : Bool) → WholeRule (tiesToEven s)
+ties-to-even s = record { same = closest-same; whole = λ n. unfold roundNE in round-none n; next = closest-up }
 
 -- what both operations do: `truncate` by towardZero, `nearest` by tiesToEven
 abbrev pub roundedBy : (ℕ → ℕ → ℕ) → ℕ → ℕ
@@ -132,8 +132,8 @@ truncate-means a ha =
     let b = floor-bounds (magnitude a) (2 ^ 1074) (pow-pos 1074) in
     record {
       whole = magnitude a / 2 ^ 1074;
-      reads = rounded-reads towardZero toward-zero a;
-      sign-kept = rounded-sign towardZero toward-zero a;
+      reads = rounded-reads (towardZero false) (toward-zero false) a;
+      sign-kept = rounded-sign (towardZero false) (toward-zero false) a;
       not-above = b .0;
       greatest = b .1;
     }
@@ -143,7 +143,7 @@ unfolding nearest
 nearest-means a ha =
     record {
       whole = closest (magnitude a) (2 ^ 1074);
-      reads = rounded-reads tiesToEven ties-to-even a;
-      sign-kept = rounded-sign tiesToEven ties-to-even a;
+      reads = rounded-reads (tiesToEven false) (ties-to-even false) a;
+      sign-kept = rounded-sign (tiesToEven false) (ties-to-even false) a;
       nearest-even = closest-nearest (magnitude a) 1074;
     }

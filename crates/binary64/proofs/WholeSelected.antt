@@ -6,7 +6,7 @@ use mathlib.Core.Logic.{inl, inr}
 use Prim.Native.Nat.{ℕ, suc, _+_, _-_, _*_, _/_, _%_, _^_, _≤_, _<_, min}
 use native.Mathlib.Nat.{add-zero, mod-eq-of-lt, div-add-mod'}
 use native.Mathlib.Omega.{arith}
-use lib.Bits.{bitAnd, bitOr, and-mask, or-shifted}
+use lib.Bits.{bitAnd, and-mask}
 use lib.Dec.{ltb, eqb}
 use lib.Pow.{pow-pos, pow-mono, ones-split, ones-lt, high}
 use Rattle.binary64.specs.Number.{sign, expo, frac, signed}
@@ -75,15 +75,14 @@ truncate-selected a f hf =
 
 -- ---- nearest
 -- below 1: what is above a half, the bits 3FE · 2^52, becomes 1
-nearest-below-one : (a : ℕ) → expo a < 1023 → bitOr (sign a * 2 ^ 63) (cond (ltb (1022 * 2 ^ 52) (bitAnd a (2 ^ 63 - 1))) (1023 * 2 ^ 52) 0) ≡ nearest a
+nearest-below-one : (a : ℕ) → expo a < 1023 → signed (sign a) (cond (ltb (1022 * 2 ^ 52) (bitAnd a (2 ^ 63 - 1))) (1023 * 2 ^ 52) 0) ≡ nearest a
 nearest-below-one a h =
-    by-lt (λ (t : Bool). bitOr (sign a * 2 ^ 63) (cond t (1023 * 2 ^ 52) 0) ≡ nearest a) (1022 * 2 ^ 52) (bitAnd a (2 ^ 63 - 1))
+    by-lt (λ (t : Bool). signed (sign a) (cond t (1023 * 2 ^ 52) 0) ≡ nearest a) (1022 * 2 ^ 52) (bitAnd a (2 ^ 63 - 1))
     (λ g.
     let E : expo a ≡ 1022 = omega (arith, and-mask a 63) in
     let F : 0 < frac a = omega (arith, and-mask a 63) in
-    or-shifted (sign a) 63 (1023 * 2 ^ 52) (omega arith) ∙ ap (signed (sign a)) (one (frac a) F) ∙ sym (nearest-half a E))
-    (λ l. or-shifted (sign a) 63 0 (pow-pos 63)
-    ∙ elim (lt-or-ge (expo a) 1022) [
+    ap (signed (sign a)) (one (frac a) F) ∙ sym (nearest-half a E))
+    (λ l. elim (lt-or-ge (expo a) 1022) [
       | inl s ↦ sym (nearest-small a s)
       | inr g ↦
           let E : expo a ≡ 1022 = omega arith in
@@ -114,10 +113,10 @@ nearest-added a f l ha hl hf hw lo hi = go (1074 - expo a) (omega arith)
         (half-added a j l hl ∙ ap (λ (l : ℕ). a / 2 ^ suc j + a / 2 ^ j % 2 * min (l + a % 2 ^ j) 1) w)
         ∙ sym (nearest-between a j lo hi (omega arith))
 
--- over the code's own words: t the raised word, r that without its fraction, s the sign in place, o the bits of what is above a half, v what is taken
-pub nearest-selected : (a f l t r s o v : ℕ) → a < 2 ^ 64 → l < 2 → FractionOf a f → LastWholeOf a l → t ≡ (a + (f / 2 + l)) % 2 ^ 64 → r ≡ t - bitAnd t f
-    → s ≡ sign a * 2 ^ 63 → o ≡ cond (ltb (1022 * 2 ^ 52) (bitAnd a (2 ^ 63 - 1))) (1023 * 2 ^ 52) 0
-    → v ≡ cond (ltb (expo a) 1023) (bitOr s o) (cond (ltb (expo a) 1075) r a) → v ≡ nearest a
-nearest-selected a f l t r s o v ha hl hf hw ht hr hs ho hv =
-    hv ∙ by-range a (bitOr s o) r (nearest a) (λ b. ap₂ bitOr hs ho ∙ nearest-below-one a b)
-    (λ g b. hr ∙ ap (λ (t : ℕ). t - bitAnd t f) ht ∙ nearest-added a f l ha hl hf hw g b) (λ b. sym (nearest-large a b))
+-- over the code's own words: t the raised word, r that without its fraction, b what stands for it below 1, v what is taken
+pub nearest-selected : (a f l t r b v : ℕ) → a < 2 ^ 64 → l < 2 → FractionOf a f → LastWholeOf a l → t ≡ (a + (f / 2 + l)) % 2 ^ 64 → r ≡ t - bitAnd t f
+    → b ≡ signed (sign a) (cond (ltb (1022 * 2 ^ 52) (bitAnd a (2 ^ 63 - 1))) (1023 * 2 ^ 52) 0)
+    → v ≡ cond (ltb (expo a) 1023) b (cond (ltb (expo a) 1075) r a) → v ≡ nearest a
+nearest-selected a f l t r b v ha hl hf hw ht hr hb hv =
+    hv ∙ by-range a b r (nearest a) (λ l. hb ∙ nearest-below-one a l)
+    (λ g l. hr ∙ ap (λ (t : ℕ). t - bitAnd t f) ht ∙ nearest-added a f _ ha hl hf hw g l) (λ l. sym (nearest-large a l))

@@ -10,7 +10,7 @@
 -- Truncation and nearest agree for every zero and normal operand. The first and the third of these places concern them too; what they give there is not compared here.
 use mathlib.Core.Path.{_≡_}
 use mathlib.Core.Logic.{_⊎_}
-use mathlib.Core.Bool.{cond}
+use mathlib.Core.Bool.{Bool, cond}
 use Prim.Native.Nat.{ℕ, _+_, _-_, _*_, _/_, _^_, _≤_, _<_}
 use lib.Dec.{eqb}
 use lib.Ieee.{Float, nan, inf, fin, binary64, up, down, round, ofBits, toBits, mul, add}
@@ -44,19 +44,19 @@ SumIsIeee =
     → sum a b ≡ toBits binary64 (add binary64 (ofBits binary64 a) (ofBits binary64 b))
 
 -- IEEE 754's round-to-integral operations, which the library does not have, from the text of 754-2019: a number becomes the integral value that the rule
--- chooses for its magnitude, m · 2^e, which is the quotient of m * up e by down e (5.9), with the operand's sign where that is a zero too (6.3); an
--- infinity comes back as it is and a NaN stays one.
-abbrev pub roundToIntegral : (ℕ → ℕ → ℕ) → Float → Float
+-- chooses by its sign (true below zero) and its magnitude, m · 2^e, which is the quotient of m * up e by down e (5.9), with the operand's sign where that is a
+-- zero too (6.3); an infinity comes back as it is and a NaN stays one.
+abbrev pub roundToIntegral : (Bool → ℕ → ℕ → ℕ) → Float → Float
 roundToIntegral rule nan = nan
 roundToIntegral rule (inf s) = inf s
-roundToIntegral rule (fin s m e) = round binary64 s (rule (m * up e) (down e)) 1
+roundToIntegral rule (fin s m e) = round binary64 s (rule s (m * up e) (down e)) 1
 
 -- roundToIntegralTowardZero's rule and roundToIntegralTiesToEven's
-abbrev pub towardZero : ℕ → ℕ → ℕ
-towardZero a b = a / b
+abbrev pub towardZero : Bool → ℕ → ℕ → ℕ
+towardZero s a b = a / b
 
-abbrev pub tiesToEven : ℕ → ℕ → ℕ
-tiesToEven a b = closest a b
+abbrev pub tiesToEven : Bool → ℕ → ℕ → ℕ
+tiesToEven s a b = closest a b
 
 abbrev pub TruncateIsIeee : Type 0
 TruncateIsIeee = (a : ℕ) → a < 2 ^ 64 → ZeroOrNormal a → truncate a ≡ toBits binary64 (roundToIntegral towardZero (ofBits binary64 a))

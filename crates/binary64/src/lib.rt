@@ -58,6 +58,5 @@ pub fn nearest(a: u64) -> u64
     let raised = std::num::wrapping_add_u64(a, (f >> 1) + whole::last_whole(a));
     let rounded = whole::cleared(raised, f);
     let above = 0x3fe0_0000_0000_0000 < (a & 0x7fff_ffff_ffff_ffff);
-    let small = fields::sign_bit(a) | kept(above, 0x3ff0_0000_0000_0000);
-    whole::by_range(a, small, rounded)
+    whole::by_range(a, whole::below_one(a, above), rounded)
 }

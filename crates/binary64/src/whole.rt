@@ -5,10 +5,10 @@ use crate::select::choose;
 use crate::select::kept;
 ghost use mathlib.Core.Path.{_≡_};
 ghost use mathlib.Core.Bool.{cond};
-ghost use Prim.Native.Nat.{_-_, _<_};
+ghost use Prim.Native.Nat.{_-_, _*_, _^_, _<_};
 ghost use lib.Bits.{bitAnd};
 ghost use lib.Dec.{ltb};
-ghost use Rattle.binary64.specs.Number.{expo};
+ghost use Rattle.binary64.specs.Number.{sign, expo, signed};
 ghost use Rattle.binary64.specs.Steps.{loweredBy, FractionOf, LastWholeOf};
 
 // What is taken for a: `small` below 1, `between` below 2^52, and from there on, where every number is whole, a itself.
@@ -17,6 +17,13 @@ pub fn by_range(a: u64, small: u64, between: u64) -> u64
 {
     let e = exponent(a);
     choose(e < 1023, small, choose(e < 1075, between, a))
+}
+
+// What stands for a below 1: 1 where `one` holds, else a zero, with a's sign.
+pub fn below_one(a: u64, one: bool) -> u64
+    ensures { λ r. ⌜ r ≡ signed (sign a) (cond one (1023 * 2 ^ 52) 0) ⌝ }
+{
+    sign_bit(a) | kept(one, 0x3ff0_0000_0000_0000)
 }
 
 // The bits of a's fraction, as a mask, where E is 1023 to 1074: E + 1 is E - 1023 modulo 64.

@@ -36,11 +36,17 @@ literals =
     firstPattern ++ (highLiteral 11 5 ++ (nextPattern 16 ++ (highLiteral 10 4 ++ (nextPattern 8 ++ (highLiteral 9 3 ++
     (nextPattern 4 ++ (lowLiteral 11 2 ++ (nextPattern 2 ++ (lowLiteral 10 1 ++ (nextPattern 1 ++ lowLiteral 9 0))))))))))
 
--- register 13: x AND y, and m: m AND n, which ride in places 9 to 11 of x and y, where these are 0
+-- register 13: x AND y, and m: m AND n, which ride in places 9 to 11 of x and y, where these are 0, and of register 13
+unfoldable pub ride : ℕ → ℕ → ℕ → ℕ → List Step
+ride x y m n = Shl m m 9 ∷ Xor x x m ∷ Shl n n 9 ∷ Xor y y n ∷ And 13 x y ∷ Shl m 13 52 ∷ Shr m m 61 ∷ []
+
+-- places 9 to 11 of register 13 cleared
+unfoldable pub takeOff : List Step
+takeOff = Shl 3 13 55 ∷ Shr 3 3 55 ∷ Shr 13 13 12 ∷ Shl 13 13 12 ∷ Xor 13 13 3 ∷ []
+
 unfoldable pub riding : ℕ → ℕ → ℕ → ℕ → List Step
-riding x y m n =
-    Shl m m 9 ∷ Xor x x m ∷ Shl n n 9 ∷ Xor y y n ∷ And 13 x y ∷ Shl m 13 52 ∷ Shr m m 61 ∷ Shl 3 13 55 ∷ Shr 3 3 55 ∷
-    Shr 13 13 12 ∷ Shl 13 13 12 ∷ Xor 13 13 3 ∷ []
+unfolding ride takeOff
+riding x y m n = ride x y m n ++ takeOff
 
 -- register 4: bits 0 and 1 of c, register 5: bits 2 and 3, for an AND, after which register 4 says whether bits 0 and 2 are both 1, and whether bits 1 and 3
 -- are; register 6: whether they differ
@@ -63,10 +69,9 @@ highAndLow =
     Shr 20 14 12 ∷ Shl 20 20 12 ∷ Shl 3 14 62 ∷ Shr 3 3 62 ∷ Xor 20 20 3 ∷
     Shr 5 23 4 ∷ Shl 3 5 1 ∷ Xor 5 5 3 ∷ Const 3 1 ∷ Xor 5 5 3 ∷ []
 
--- the places from 12 up where c = 16, places 0 and 1 where c = 15
+-- register 5: the places from 12 up where c = 16, places 0 and 1 where c = 15, for an AND that leaves in register 13 the places that E decides
 unfoldable pub byTests : List Step
-byTests =
-    Shr 5 4 1 ∷ Spread 5 5 ∷ Shl 5 5 12 ∷ Shl 4 4 63 ∷ Shr 4 4 63 ∷ Xor 5 5 4 ∷ Shl 4 4 1 ∷ Xor 5 5 4 ∷ And 13 13 5 ∷ []
+byTests = Shr 5 4 1 ∷ Spread 5 5 ∷ Shl 5 5 12 ∷ Shl 4 4 63 ∷ Shr 4 4 63 ∷ Xor 5 5 4 ∷ Shl 4 4 1 ∷ Xor 5 5 4 ∷ []
 
 -- register 3: whether E = 1023; register 8: 2^(1074−E) for 1023 ≤ E ≤ 1074, else 0
 unfoldable pub onePlace : List Step
@@ -77,8 +82,12 @@ unfoldable pub masks : List Step
 unfolding foldDown
 masks = Shr 7 23 4 ∷ Not 7 7 ∷ Xor 7 7 3 ∷ Spread 7 7 ∷ Shr 7 7 1 ∷ Shl 6 8 0 ∷ foldDown 6
 
+-- up to the last AND
+unfoldable pub twoDecoded : List Step
+unfolding exponentParts literals riding bitPairs pairsOfPairs highAndLow byTests
+twoDecoded =
+    exponentParts ++ (literals ++ (bitPairs ++ (riding 11 10 4 5 ++ (pairsOfPairs ++ (riding 13 9 4 5 ++ (highAndLow ++ (riding 19 20 4 5 ++ byTests)))))))
+
 unfoldable pub decoder : List Step
-unfolding exponentParts literals riding bitPairs pairsOfPairs highAndLow byTests onePlace masks
-decoder =
-    exponentParts ++ (literals ++ (bitPairs ++ (riding 11 10 4 5 ++ (pairsOfPairs ++ (riding 13 9 4 5 ++ (highAndLow ++ (riding 19 20 4 5 ++
-    (byTests ++ (onePlace ++ masks)))))))))
+unfolding twoDecoded onePlace masks
+decoder = twoDecoded ++ (And 13 13 5 ∷ (onePlace ++ masks))

@@ -18,9 +18,9 @@ use Rattle.plans.specs.NearestPlan.{nearestSteps, nearestPlan}
 use Rattle.plans.proofs.Registers.{runSteps, tab}
 use Rattle.plans.proofs.Modelled.{wellFormed, plan-computes}
 use Rattle.plans.proofs.RunOfOnes.{stageAnd, nextF, nextN, runOf, orOf}
+use Rattle.plans.proofs.RoundUp.{oneOf, raisedWhere, roundedUp}
 use Rattle.plans.proofs.decoder.Words.{pattern5, pattern2, lit2, lit1, lit0, forHigh, forLow, pairA, pairB, noPair, testsA, testsB, topTests}
 use Rattle.plans.proofs.decoder.Decoded.{chosenBy, decodedWord, isOne, isHalf, onePlaceOf, fold, maskW, maskU, decodedOf, belowOf, decoded}
-use Rattle.plans.proofs.nearest.Rounded.{oneOf, raisedWhere}
 use Rattle.plans.proofs.nearest.Parts.{firstOf, othersOf, roundedTo}
 use Rattle.plans.proofs.nearest.Outside.{none-first, half}
 use Rattle.plans.proofs.nearest.Between.{between}
@@ -29,7 +29,7 @@ unfoldable pub nearestModel : ℕ → ℕ
 nearestModel x = let p : ℕ = onePlaceOf (decodedOf x) in roundedTo x p (maskW p) (belowOf x) (isHalf (decodedOf x))
 
 modelled : (f : ℕ → ℕ) → getD (runSteps nearestSteps (tab f 0 32)) 2 0 ≡ nearestModel (f 0)
-unfolding nearestSteps stepped nearestModel roundedTo othersOf firstOf raisedWhere oneOf runOf orOf nextN nextF stageAnd pattern5 pattern2 lit2 lit1 lit0 forHigh forLow pairA pairB noPair testsA testsB topTests chosenBy decodedWord isOne isHalf onePlaceOf fold maskW maskU decodedOf belowOf
+unfolding nearestSteps stepped nearestModel roundedTo othersOf firstOf roundedUp raisedWhere oneOf runOf orOf nextN nextF stageAnd pattern5 pattern2 lit2 lit1 lit0 forHigh forLow pairA pairB noPair testsA testsB topTests chosenBy decodedWord isOne isHalf onePlaceOf fold maskW maskU decodedOf belowOf
 modelled f = refl
 
 nearest-well-formed : T (wellFormed nearestSteps)
@@ -51,7 +51,7 @@ module _ (x : ℕ) (hx : x < 2 ^ 64) where
         | inl l ↦
             let m = d .below (omega arith) in
             left 0 0 (2 ^ 63 - 1) 0 (m .0) (m .1) (m .2) (d .half ∙ if-not-eq (expo x) 1022 1 0 (λ e. omega arith))
-            ∙ none-first x hx 63 (omega arith) ∙ sym (nearest-small x l ∙ add-zero (sign x * 2 ^ 63))
+            ∙ none-first x hx 63 ∙ sym (nearest-small x l ∙ add-zero (sign x * 2 ^ 63))
         | inr g ↦ elim (lt-or-ge (expo x) 1023) [
           | inl l ↦
               let m = d .below l in
@@ -67,7 +67,7 @@ module _ (x : ℕ) (hx : x < 2 ^ 64) where
             | inr g₂ ↦
                 let m = d .large g₂ in
                 left 0 0 0 0 (m .0) (m .1) (m .2) (d .half ∙ if-not-eq (expo x) 1022 1 0 (λ e. omega arith))
-                ∙ none-first x hx 0 (omega arith) ∙ mul-one (x / 1) ∙ div-one x ∙ sym (nearest-large x g₂)
+                ∙ none-first x hx 0 ∙ mul-one (x / 1) ∙ div-one x ∙ sym (nearest-large x g₂)
           ]
         ]
       ]

@@ -1,20 +1,18 @@
--- The steps of nearest's plan after the decoder, as functions of what the decoder leaves; and what each part is in numbers: the first bit dropped, what decides
--- beside it, and the operand without its low bits.
--- Rests on Rounded, on the decoder's fold, and on the laws of words.
+-- The steps of nearest's plan after the decoder, as functions of what the decoder leaves; and what is the same in every range of E: one place folded is the mask up
+-- to it. Rests on RoundUp, on the decoder's fold, and on the laws of words.
 use mathlib.Core.Path.{_≡_, refl, sym, ap, ap₂, _∙_}
-use Prim.Native.Nat.{ℕ, suc, _+_, _-_, _*_, _/_, _%_, _^_, _<_, min}
+use Prim.Native.Nat.{ℕ, suc, _+_, _-_, _*_, _/_, _%_, _^_, _<_}
 use native.Mathlib.Nat.{mod-lt, zero-mul, one-mul, div-add-mod'}
 use native.Mathlib.Omega.{arith}
-use lib.Bits.{differ}
 use lib.Dec.{T, eqb, eqb→eq}
 use lib.Pow.{pow-pos}
-use Rattle.bits.specs.Ops.{xorW, andW, notW, shlW, shrW}
+use Rattle.bits.specs.Ops.{xorW, andW, shlW, shrW}
 use Rattle.bits.proofs.Digits.{digit, bit}
 use Rattle.bits.proofs.Xor.{and-zero}
-use Rattle.bits.proofs.Places.{and-low, and-block, bit-zero, bit-not}
+use Rattle.bits.proofs.Places.{and-low, and-block}
 use Rattle.plans.proofs.Tests.{every, each}
+use Rattle.plans.proofs.RoundUp.{roundedUp}
 use Rattle.plans.proofs.decoder.Decoded.{fold}
-use Rattle.plans.proofs.nearest.Rounded.{oneOf, raisedWhere, kept, raised}
 
 -- ---- the steps after the decoder: p the place, W and U the masks, h whether E = 1022
 -- the bits dropped
@@ -25,15 +23,12 @@ bitsOf x W U = andW x (xorW W U)
 unfoldable pub firstOf : ℕ → ℕ → ℕ → ℕ
 firstOf x p h = xorW (fold (andW x p)) h
 
--- what decides with it: the other bits dropped and the last bit kept (`roundedTo` puts the opposite of the first beside them, in place 63)
+-- what decides with it: the other bits dropped and the last bit kept
 unfoldable pub othersOf : ℕ → ℕ → ℕ → ℕ
 othersOf x p f = xorW (xorW (shrW (shlW f 12) 12) (andW x p)) (andW (shlW p 1) x)
 
 unfoldable pub roundedTo : ℕ → ℕ → ℕ → ℕ → ℕ → ℕ
-roundedTo x p W U h =
-    let f : ℕ = bitsOf x W U in
-    let b : ℕ = firstOf x p h in
-    raisedWhere (xorW x f) W h (xorW (xorW x W) f) (xorW (othersOf x p f) (shlW (notW b) 63)) b
+roundedTo x p W U h = let f : ℕ = bitsOf x W U in roundedUp x W f h (othersOf x p f) (firstOf x p h)
 
 -- ---- parts of a word
 -- the bit at place j alone
@@ -59,25 +54,3 @@ fold-bit b j hb hj =
     (ap fold (zero-mul (2 ^ j)) ∙ fold-none ∙ sym (zero-mul (2 ^ suc j - 1)))
     (ap fold (one-mul (2 ^ j)) ∙ eqb→eq _ _ (each 64 (λ j. eqb (fold (2 ^ j)) (2 ^ suc j - 1)) fold-tested j hj) ∙ sym (one-mul (2 ^ suc j - 1)))
     b hb
-
--- the opposite of a bit, in place 63
-pub opposite : (b : ℕ) → b < 2 ^ 64 → shlW (notW b) 63 ≡ (1 - b % 2) * 2 ^ 63
-unfolding shlW
-opposite b h = top (notW b) ∙ ap (λ (v : ℕ). v * 2 ^ 63) (sym (bit-zero (notW b)) ∙ bit-not b 0 h (omega arith) ∙ ap (λ (v : ℕ). 1 - v) (bit-zero b))
-  where
-    top : (w : ℕ) → shlW w 63 ≡ w % 2 * 2 ^ 63
-    top w = omega arith
-
--- ---- the steps after the decoder from what they read
-module _ (x p W U h z y F : ℕ) (hW : W < 2 ^ 64) (hF : F < 2 ^ 64) where
-  module _ (ze : xorW x (bitsOf x W U) ≡ z) (ye : xorW (xorW x W) (bitsOf x W U) ≡ y)
-      (fe : xorW (othersOf x p (bitsOf x W U)) (shlW (notW (firstOf x p h)) 63) ≡ F) where
-    parts : roundedTo x p W U h ≡ raisedWhere z W h y F (firstOf x p h)
-    unfolding roundedTo
-    parts = rw (ze, ye, fe) refl
-
-    pub stays : differ (1 - min F 1) (firstOf x p h % 2) ≡ 0 → roundedTo x p W U h ≡ z
-    stays e = parts ∙ kept z W h y F (firstOf x p h) hW hF e
-
-    pub goes-up : differ (1 - min F 1) (firstOf x p h % 2) ≡ 1 → y < 2 ^ 64 - 1 → xorW z W ≡ y → roundedTo x p W U h ≡ xorW (y + 1) (oneOf h)
-    goes-up e hy zy = parts ∙ raised z W h y F (firstOf x p h) hW hF e hy zy
