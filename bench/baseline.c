@@ -250,7 +250,7 @@ uint64_t base_sum(uint64_t a, uint64_t b) {
 uint64_t base_floor(uint64_t a) {
     unsigned exponent = exponent_of(a);
     if (exponent >= 1075) return a;
-    if (exponent < 1023) return a & SIGN ? UINT64_C(0xBFF0000000000000) : 0;
+    if (exponent < 1023) return (a & SIGN) | (a >= (SIGN | LEADING) ? ONE : 0);
     uint64_t fraction = (UINT64_C(1) << (1075 - exponent)) - 1;
     return (a & SIGN ? a + fraction : a) & ~fraction;
 }

@@ -53,8 +53,8 @@ extern "C" {
 #endif
 
 /* The number grows by one with every change of the calls. */
-#define LUBEWON_VERSION "0.10"
-#define LUBEWON_VERSION_NUMBER 10
+#define LUBEWON_VERSION "0.11"
+#define LUBEWON_VERSION_NUMBER 11
 
 /* Turn-downs. */
 enum {
@@ -82,12 +82,12 @@ enum {
 /* The words of the built-in plans, and the tape words that an operation takes on n shares. */
 #define LUBEWON_PRODUCT_PLAN 810
 #define LUBEWON_SUM_PLAN 300
-#define LUBEWON_FLOOR_PLAN 83
+#define LUBEWON_FLOOR_PLAN 297
 #define LUBEWON_TRUNCATE_PLAN 169
 #define LUBEWON_NEAREST_PLAN 301
 #define LUBEWON_PRODUCT_TAPE(n) (89 * (n) * ((n) - 1))
 #define LUBEWON_SUM_TAPE(n) (81 * (n) * ((n) - 1))
-#define LUBEWON_FLOOR_TAPE(n) (23 * (n) * ((n) - 1))
+#define LUBEWON_FLOOR_TAPE(n) (12 * (n) * ((n) - 1))
 #define LUBEWON_TRUNCATE_TAPE(n) (5 * (n) * ((n) - 1))
 #define LUBEWON_NEAREST_TAPE(n) (14 * (n) * ((n) - 1))
 /* Split: n - 1. */
@@ -166,10 +166,10 @@ lubewon_answer lubewon_nearest_in_place(uint64_t *x, size_t x_len, uint64_t *wor
  * for zeros too. A sum of two zeros is minus zero only if both are; exact cancellation gives plus zero.
  *
  * Floor, truncation and nearest return an operand with E >= 1075 as it is. Below that, floor is the greatest whole number not above the operand,
- * plus zero where that is zero; but -1 where E = 0 and the sign bit is set, minus zero included. Truncation drops the fraction; nearest is the
- * nearest whole number, of two equally near the even one, so that 2.5 gives 2. Both keep the sign, so that -0.5 gives minus zero, and with E = 0
- * give the zero of the word's sign. For every zero (E = F = 0) and every normal operand (E from 1 to 2046) these two have IEEE 754's bits, those of
- * C's trunc, and of its rint where it rounds to nearest; so has floor, but for minus zero. */
+ * so that -0.5 gives -1; truncation drops the fraction; nearest is the nearest whole number, of two equally near the even one, so that 2.5 gives 2.
+ * All three keep the sign, so that truncation and nearest of -0.5 give minus zero, and with E = 0 give the zero of the word's sign. For every zero
+ * (E = F = 0) and every normal operand (E from 1 to 2046) they have IEEE 754's bits, those of C's floor and trunc, and of its rint where it rounds
+ * to nearest. */
 uint64_t lubewon_product(uint64_t a, uint64_t b);
 uint64_t lubewon_sum(uint64_t a, uint64_t b);
 uint64_t lubewon_floor(uint64_t a);

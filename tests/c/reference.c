@@ -443,8 +443,10 @@ static uint64_t whole_number(unsigned sign, uint64_t whole) {
     return whole == 0 ? zero_of_sign(sign) : round_exact(sign, &exact);
 }
 
+/* "floor of any operand with E = 0 is the zero of its sign", "Other negatives above -1 still give -1". */
 uint64_t ref_floor(uint64_t a) {
     unsigned exponent = exponent_of(a), sign = sign_of(a);
+    if (exponent == 0) return zero_of_sign(sign);
     if (exponent >= 1075) return a;
     if (exponent < 1023) return sign ? UINT64_C(0xBFF0000000000000) : 0;
     unsigned below_point = 1075 - exponent;

@@ -70,15 +70,14 @@ static void try_native_sum(uint64_t a, uint64_t b, uint64_t native) {
     zeros++;
 }
 
-/* The roundings to a whole number are native ones: floor but for minus zero, truncation and nearest for all ordinary operands. */
+/* The roundings to a whole number are native ones, for all ordinary operands. */
 static void try_native_whole(uint64_t a) {
     static const struct {
         int operation;
         double (*native)(double);
-        bool minus_zero;
-    } roundings[] = {{FLOOR, floor, false}, {TRUNCATE, trunc, true}, {NEAREST, nearbyint, true}, {NEAREST, rint, true}};
+    } roundings[] = {{FLOOR, floor}, {TRUNCATE, trunc}, {NEAREST, nearbyint}, {NEAREST, rint}};
+    if (!ordinary(a)) return;
     for (size_t i = 0; i < COUNT(roundings); i++) {
-        if (!ordinary(a) || (a == sign_bit && !roundings[i].minus_zero)) continue;
         const operation *op = &operations[roundings[i].operation];
         uint64_t got = op->plain(a, 0), native = as_bits(roundings[i].native(as_double(a)));
         CHECK(got == native, "%s of %016lX is %016lX, natively %016lX", op->name, a, got, native);

@@ -1,4 +1,4 @@
--- Document 01's edge table and the one for truncation and nearest, each proved together: every row holds, by computing the definitions on its operands.
+-- Document 01's edge table and the one for the roundings, each proved together: every row holds, by computing the definitions on its operands.
 use mathlib.Core.Path.{refl}
 use lib.Ieee.{size}
 use Rattle.bits.specs.Ops.{xorW}
@@ -16,5 +16,5 @@ unfolding edges size xorW magnitude roundedE roundedF magBits product sumOf sum 
 edges-hold = refl
 
 pub rounding-edges-hold : RoundingEdgesHold
-unfolding roundingEdges size magnitude roundedE roundedF magBits truncate nearest
+unfolding roundingEdges size magnitude roundedE roundedF magBits floor truncate nearest
 rounding-edges-hold = refl

@@ -1,141 +1,120 @@
--- Floor is the greatest whole number not above the operand; minus zero gives -1: the theorems of specs/Meaning on floor.
--- Rests on FloorModel and WholeMeaning. P stands for 2^1074, so that the numbers stay small.
-use mathlib.Core.Path.{_≡_, refl, sym, ap, _∙_, subst}
+-- Floor is the greatest whole number not above the operand: the theorem of specs/Meaning on it. Floor goes by a rule that sees the sign, and what holds of every rule
+-- is proved in WholeMeaning. Rests on that, and on FloorModel and WholeModel for the ranges of E.
+use mathlib.Core.Path.{_≡_, refl, sym, ap, ap₂, _∙_, subst}
 use mathlib.Core.Logic.{inl, inr}
-use Prim.Native.Nat.{ℕ, zero, suc, _+_, _-_, _*_, _/_, _%_, _^_, _≤_, _<_, min, zero-le}
-use native.Mathlib.Nat.{le-trans, le-of-eq, le-of-lt, le-suc, mul-le-mul, one-mul, div-add-mod', mod-lt, le-div-iff-mul-le}
+use mathlib.Core.Bool.{Bool, true, false, cond}
+use Prim.Native.Nat.{ℕ, zero, suc, _+_, _-_, _*_, _/_, _%_, _^_, _≤_, _<_, min}
+use native.Mathlib.Nat.{add-zero, zero-add, add-mul, div-add-mod', div-eq-of-lt, div-one, mod-lt, mod-eq-of-lt, mod-one, eq-zero-or-pos, lt-of-lt-of-le, le-of-eq, mul-pos, one-mul}
 use native.Mathlib.Omega.{arith}
-use lib.Pow.{pow-pos, pow-add, pow-mono}
-use Rattle.binary64.specs.Number.{sign, expo, frac, magnitudeOf, magnitude}
+use lib.Pow.{pow-pos}
+use lib.Ieee.Nearest.{div-same}
+use Rattle.binary64.specs.Number.{sign, expo, frac, magnitudeOf, magnitude, signed}
+use Rattle.binary64.specs.Rounding.{magBits}
 use Rattle.binary64.specs.Whole.{wholeNumber}
-use Rattle.binary64.specs.Floor.{floor}
-use Rattle.binary64.specs.Meaning.{GreatestWhole, FloorMeans, FloorMinusZero}
-use Rattle.binary64.proofs.Cases.{lt-or-ge, zero-one, if-eq, if-not-eq}
-use Rattle.binary64.proofs.Words.{sign-cases, magnitude-below}
-use Rattle.binary64.proofs.FloorModel.{floor-large, floor-small-plus, floor-small-minus, floor-between}
-use Rattle.binary64.proofs.WholeMeaning.{large-multiple, next-whole-lt, floor-bounds, whole-reads, whole-sign}
+use Rattle.binary64.specs.Floor.{wholeOf, floor}
+use Rattle.binary64.specs.Ieee.{towardNegative}
+use Rattle.binary64.specs.Meaning.{GreatestWhole, FloorMeans}
+use Rattle.binary64.proofs.Cases.{lt-or-ge, zero-one, if-le, if-not-le, if-eq, if-not-eq}
+use Rattle.binary64.proofs.Words.{sign-cases, magnitude-is, magnitude-below}
+use Rattle.binary64.proofs.FloorModel.{some-units, floor-zero, floor-large, floor-small-plus, floor-small-minus, floor-between}
+use Rattle.binary64.proofs.WholeModel.{whole-zero, one-bits}
+use Rattle.binary64.proofs.WholeMeaning.{floor-bounds, WholeRule, roundedBy, rounded-reads, rounded-sign}
 
--- ---- quotients as bounds
-ceiling-bounds : (m P : ℕ) → 0 < P → P ≤ m → (m ≤ (m / P + min (m % P) 1) * P) × (0 < m / P + min (m % P) 1) × ((m / P + min (m % P) 1 - 1) * P < m)
-ceiling-bounds m P h big = go (m / P) (m % P) (div-add-mod' m P) (mod-lt m h) (le-div-iff-mul-le h .1 (le-trans (le-of-eq (one-mul P)) big))
+-- ---- floor's rule
+-- a quotient rounded up sees only the fraction's value
+up-same : (a b c d : ℕ) → 0 < b → 0 < d → a * d ≡ c * b → a / b + min (a % b) 1 ≡ c / d + min (c % d) 1
+up-same a b c d B D e =
+    let q : a / b ≡ c / d = div-same a b c d B D e in
+    let r : a % b * d ≡ c % d * b =
+    rests (a / b) (a % b) (c % d) b d (a * d) (c * b) (ap (λ (z : ℕ). z * d) (div-add-mod' a b)) (ap (λ (z : ℕ). (z * d + c % d) * b) q ∙ ap (λ (z : ℕ). z * b) (div-add-mod' c d)) e in
+    ap₂ _+_ q (sym (some-units (a % b) d D) ∙ ap (λ (z : ℕ). min z 1) r ∙ some-units (c % d) b B)
   where
-    go : (q r : ℕ) → q * P + r ≡ m → r < P → 1 ≤ q → (m ≤ (q + min r 1) * P) × (0 < q + min r 1) × ((q + min r 1 - 1) * P < m)
-    go zero r e l o = absurd (omega arith)
-    go (suc q) zero e l o =
-        let a : suc q + min 0 1 ≡ suc q = omega arith in
-        let b : suc q + min 0 1 - 1 ≡ q = omega arith in
-        (subst (λ (x : ℕ). m ≤ x * P) (sym a) (omega arith), omega arith, subst (λ (x : ℕ). x * P < m) (sym b) (omega arith))
-    go (suc q) (suc r) e l o =
-        let a : suc q + min (suc r) 1 ≡ suc (suc q) = omega arith in
-        let b : suc q + min (suc r) 1 - 1 ≡ suc q = omega arith in
-        (subst (λ (x : ℕ). m ≤ x * P) (sym a) (omega arith), omega arith, subst (λ (x : ℕ). x * P < m) (sym b) (omega arith))
+    rests : (q r s b d x y : ℕ) → (q * b + r) * d ≡ x → (q * d + s) * b ≡ y → x ≡ y → r * d ≡ s * b
+    rests q r s b d x y f g h = omega arith
 
--- a multiple of P is its own floor and ceiling
-multiple-bounds : (w P : ℕ) → 0 < P → 0 < w → ((w * P ≤ w * P) × (w * P < suc w * P)) × ((w * P ≤ w * P) × (0 < w) × ((w - 1) * P < w * P))
-multiple-bounds zero P h p = absurd (omega arith)
-multiple-bounds (suc w) P h p = let s : suc w - 1 ≡ w = omega arith in ((omega arith, omega arith), (omega arith, omega arith, subst (λ (x : ℕ). x * P < suc w * P) (sym s) (omega arith)))
+pub toward-negative : (s : Bool) → WholeRule (towardNegative s)
+toward-negative true = record {
+  same = up-same;
+  whole = λ n. ap₂ (λ (q r : ℕ). q + min r 1) (div-one n) (mod-one n) ∙ add-zero n;
+  next = λ a b. omega arith;
+}
+toward-negative false = record { same = div-same; whole = div-one; next = λ a b. omega arith }
 
--- from E = 1023 on the operand is not below 1
-between-above : (E F : ℕ) → 1023 ≤ E → 2 ^ 1074 ≤ magnitudeOf E F
-between-above zero F h = absurd (omega arith)
-between-above (suc e) F h =
-    let x : 2 ^ 52 ≤ 2 ^ 52 + F = omega arith in
-    let p : 2 ^ 1022 ≤ 2 ^ e = pow-mono {i = 1022} {j = e} (omega arith) in
-    le-trans (le-of-eq (pow-add 2 52 1022)) (mul-le-mul x p)
+-- ---- below 1: 0, or 1 for a negative number that is no zero
+below-one : (s : Bool) (M P : ℕ) → M < P → towardNegative s M P ≡ cond s (min M 1) 0
+below-one true M P h = ap₂ (λ (q r : ℕ). q + min r 1) (div-eq-of-lt h) (mod-eq-of-lt h) ∙ zero-add (min M 1)
+below-one false M P h = div-eq-of-lt h
 
--- ---- the three ranges
-whole-large : (a : ℕ) → 1075 ≤ expo a → GreatestWhole a (floor a)
-whole-large a h =
-    let w : (w : ℕ) × (0 < w) × (magnitude a ≡ w * 2 ^ 1074) = unfold magnitude in large-multiple (expo a) (frac a) h in
-    let b = multiple-bounds (w .0) (2 ^ 1074) (pow-pos 1074) (w .1) in
-    subst (GreatestWhole a) (sym (floor-large a h))
-    (record {
-      whole = w .0;
-      reads = w .2;
-      sign-kept = refl;
-      plus = λ s. subst (λ (m : ℕ). (w .0 * 2 ^ 1074 ≤ m) × (m < suc (w .0) * 2 ^ 1074)) (sym (w .2)) (b .0);
-      minus = λ s. subst (λ (m : ℕ). (m ≤ w .0 * 2 ^ 1074) × (0 < w .0) × ((w .0 - 1) * 2 ^ 1074 < m)) (sym (w .2)) (b .1);
-    })
+module _ (a : ℕ) where
+  -- in every range of E
+  pub floor-rounded : (s : Bool) → sign a ≡ cond s 1 0 → floor a ≡ roundedBy (towardNegative s) a
+  floor-rounded s h =
+      elim (lt-or-ge (expo a) 1075) [
+        | inr g ↦ floor-large a g ∙ sym (if-le 1075 (expo a) a (wholeNumber (sign a) (towardNegative s (magnitude a) (2 ^ 1074))) g)
+        | inl l ↦
+            elim (lt-or-ge (expo a) 1023) [
+              | inr g ↦ floor-between a g l ∙ ap (wholeNumber (sign a)) (by s h)
+              | inl k ↦
+                  small s h k
+                  ∙ ap (wholeNumber (sign a)) (sym (below-one s (magnitude a) (2 ^ 1074) (magnitude-below a 1023 k)))
+            ]
+            ∙ sym (if-not-le 1075 (expo a) a (wholeNumber (sign a) (towardNegative s (magnitude a) (2 ^ 1074))) l)
+      ]
+    where
+      by : (s : Bool) → sign a ≡ cond s 1 0 → wholeOf 1074 (sign a) (magnitude a) ≡ towardNegative s (magnitude a) (2 ^ 1074)
+      by true e = if-not-eq (sign a) 0 _ _ (λ z. zero-one z e)
+      by false e = if-eq (sign a) 0 _ _ e
 
-minus-one : magnitude 0xBFF0000000000000 ≡ 1 * 2 ^ 1074
-unfolding magnitude
-minus-one = refl
+      positive : 1 ≤ expo a → min (magnitude a) 1 ≡ 1
+      positive o =
+          let m : magnitude a ≡ (2 ^ 52 + frac a) * 2 ^ (expo a - 1) = magnitude-is a (expo a - 1) (omega arith) in
+          let p : 0 < (2 ^ 52 + frac a) * 2 ^ (expo a - 1) = mul-pos (omega arith) (pow-pos (expo a - 1)) in
+          omega arith
 
-whole-small : (a : ℕ) → a < 2 ^ 64 → expo a < 1023 → (sign a ≡ 1 → magnitude a ≡ 0 → ⊥) → GreatestWhole a (floor a)
-whole-small a ha h nz =
-    let b : magnitude a < 2 ^ 1074 = magnitude-below a 1023 h in
-    let one : 1 * 2 ^ 1074 ≡ 2 ^ 1074 = one-mul (2 ^ 1074) in
-    elim (sign-cases a ha) [
-      | inl s ↦
-          subst (GreatestWhole a) (sym (floor-small-plus a h s))
-          (record {
-            whole = 0;
-            reads = unfold magnitude in refl;
-            sign-kept = sym s;
-            plus = λ t. (zero-le, subst (λ (m : ℕ). magnitude a < m) (sym one) b);
-            minus = λ t. absurd (zero-one s t);
-          })
-      | inr s ↦
-          subst (GreatestWhole a) (sym (floor-small-minus a h (λ t. zero-one t s)))
-          (record {
-            whole = 1;
-            reads = minus-one;
-            sign-kept = sym s;
-            plus = λ t. absurd (zero-one t s);
-            minus = λ t. (le-of-lt (subst (λ (m : ℕ). magnitude a < m) (sym one) b), omega arith, positive (magnitude a) (nz s));
-          })
-    ]
+      none : expo a ≡ 0 → min (magnitude a) 1 ≡ 0
+      none z = let m : magnitude a ≡ 0 = (unfold magnitude in ap (λ (E : ℕ). magnitudeOf E (frac a)) z) in omega arith
+
+      small : (s : Bool) → sign a ≡ cond s 1 0 → expo a < 1023 → floor a ≡ wholeNumber (sign a) (cond s (min (magnitude a) 1) 0)
+      small false e k = floor-small-plus a k e ∙ sym (whole-zero (sign a) ∙ ap (λ (s : ℕ). signed s 0) e)
+      small true e k =
+          elim (eq-zero-or-pos (expo a)) [
+            | inl z ↦ floor-zero a z ∙ sym (ap (wholeNumber (sign a)) (none z) ∙ whole-zero (sign a))
+            | inr o ↦ floor-small-minus a o k (λ z. zero-one z e) ∙ sym (ap (wholeNumber (sign a)) (positive o) ∙ ap₂ signed e one-bits)
+          ]
+
+-- ---- the theorem
+ceiling-bounds : (m P : ℕ) → 0 < P → (m ≤ (m / P + min (m % P) 1) * P) × ((m / P + min (m % P) 1) * P < m + P)
+ceiling-bounds m P h = go (m / P) (m % P) (div-add-mod' m P) (mod-lt m h)
   where
-    positive : (m : ℕ) → (m ≡ 0 → ⊥) → 0 < m
-    positive zero n = absurd (n refl)
-    positive (suc m) n = omega arith
-
-whole-between : (a : ℕ) → a < 2 ^ 64 → 1023 ≤ expo a → expo a < 1075 → GreatestWhole a (floor a)
-whole-between a ha lo hi =
-    elim (sign-cases a ha) [
-      | inl s ↦
-          let n = magnitude a / 2 ^ 1074 in
-          let f : floor a ≡ wholeNumber (sign a) n = floor-between a lo hi ∙ ap (λ (w : ℕ). wholeNumber (sign a) w) (if-eq (sign a) 0 _ _ s) in
-          subst (GreatestWhole a) (sym f)
-          (record {
-            whole = n;
-            reads = whole-reads (sign a) n (next-whole-lt a n hi (le-suc n));
-            sign-kept = whole-sign (sign a) n;
-            plus = λ t. floor-bounds (magnitude a) (2 ^ 1074) (pow-pos 1074);
-            minus = λ t. absurd (zero-one s t);
-          })
-      | inr s ↦
-          let n = magnitude a / 2 ^ 1074 + min (magnitude a % 2 ^ 1074) 1 in
-          let f : floor a ≡ wholeNumber (sign a) n = floor-between a lo hi ∙ ap (λ (w : ℕ). wholeNumber (sign a) w) (if-not-eq (sign a) 0 _ _ (λ t. zero-one t s)) in
-          let big : 2 ^ 1074 ≤ magnitude a = unfold magnitude in between-above (expo a) (frac a) lo in
-          subst (GreatestWhole a) (sym f)
-          (record {
-            whole = n;
-            reads = whole-reads (sign a) n (next-whole-lt a n hi (most (magnitude a / 2 ^ 1074) (magnitude a % 2 ^ 1074)));
-            sign-kept = whole-sign (sign a) n;
-            plus = λ t. absurd (zero-one t s);
-            minus = λ t. ceiling-bounds (magnitude a) (2 ^ 1074) (pow-pos 1074) big;
-          })
-    ]
-  where
-    most : (q r : ℕ) → q + min r 1 ≤ suc q
-    most q r = omega arith
+    go : (q r : ℕ) → q * P + r ≡ m → r < P → (m ≤ (q + min r 1) * P) × ((q + min r 1) * P < m + P)
+    go q zero e l = let c : (q + min 0 1) * P ≡ q * P = ap (λ (x : ℕ). x * P) (omega arith) in (omega arith, omega arith)
+    go q (suc r) e l = let c : (q + min (suc r) 1) * P ≡ q * P + P = ap (λ (x : ℕ). x * P) (omega arith) ∙ add-mul q 1 P ∙ ap (λ (x : ℕ). q * P + x) (one-mul P) in (omega arith, omega arith)
 
 pub floor-means : FloorMeans
-floor-means a ha nz =
-    elim (lt-or-ge (expo a) 1023) [
-      | inl l ↦ whole-small a ha l nz
-      | inr g ↦ elim (lt-or-ge (expo a) 1075) [ inl l ↦ whole-between a ha g l | inr h ↦ whole-large a h ]
+floor-means a ha =
+    let m = magnitude a in
+    let P = 2 ^ 1074 in
+    elim (sign-cases a ha) [
+      | inl s ↦
+          let b = floor-bounds m P (pow-pos 1074) in
+          subst (GreatestWhole a) (sym (floor-rounded a false s))
+          (record {
+            whole = m / P;
+            reads = rounded-reads (towardNegative false) (toward-negative false) a;
+            sign-kept = rounded-sign (towardNegative false) (toward-negative false) a;
+            plus = λ t. (b .0, lt-of-lt-of-le (b .1) (le-of-eq (next (m / P) P)));
+            minus = λ t. absurd (zero-one s t);
+          })
+      | inr s ↦
+          subst (GreatestWhole a) (sym (floor-rounded a true s))
+          (record {
+            whole = m / P + min (m % P) 1;
+            reads = rounded-reads (towardNegative true) (toward-negative true) a;
+            sign-kept = rounded-sign (towardNegative true) (toward-negative true) a;
+            plus = λ t. absurd (zero-one t s);
+            minus = λ t. ceiling-bounds m P (pow-pos 1074);
+          })
     ]
-
-pub floor-minus-zero : FloorMinusZero
-floor-minus-zero = (refl, minus-one, λ a ha s z. floor-small-minus a (low a s z) (λ t. zero-one t s))
   where
-    low : (a : ℕ) → sign a ≡ 1 → magnitude a ≡ 0 → expo a < 1023
-    low a s z =
-        elim (lt-or-ge (expo a) 1023) [
-          | inl l ↦ l
-          | inr g ↦
-              let big : 2 ^ 1074 ≤ magnitude a = unfold magnitude in between-above (expo a) (frac a) g in
-              absurd (native.Mathlib.Nat.not-le-of-lt (pow-pos 1074) (le-trans big (le-of-eq z)))
-        ]
+    next : (w P : ℕ) → suc w * P ≡ w * P + P
+    next w P = omega arith

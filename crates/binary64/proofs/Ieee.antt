@@ -49,7 +49,7 @@ value a h =
     field a = omega arith
 
 -- the sign as a Bool and as a number
-pub bit : Bool → ℕ
+unfoldable pub bit : Bool → ℕ
 bit b = cond b 1 0
 
 pub negative-is : (a : ℕ) → a < 2 ^ 64 → sign a ≡ bit (negative a)

@@ -1,5 +1,5 @@
--- Truncation and nearest are IEEE 754's roundToIntegralTowardZero and roundToIntegralTiesToEven: the two theorems of specs/Ieee on them, as instances of
--- one over the rule that chooses the whole number. Rests on WholeMeaning, and on Ieee for how the library reads an operand and writes a rounded number.
+-- Floor, truncation and nearest are IEEE 754's roundToIntegralTowardNegative, -TowardZero and -TiesToEven: the three theorems of specs/Ieee on them, as instances
+-- of one over the rule that chooses the whole number. Rests on WholeMeaning and FloorMeaning, and on Ieee for how the library reads an operand and writes a rounded number.
 use mathlib.Core.Path.{_≡_, sym, ap, ap₂, _∙_}
 use mathlib.Core.Logic.{inl, inr}
 use mathlib.Core.Bool.{Bool}
@@ -16,11 +16,12 @@ use Rattle.binary64.specs.Rounding.{magBits}
 use Rattle.binary64.specs.Whole.{wholeNumber}
 use Rattle.binary64.specs.Truncate.{truncate}
 use Rattle.binary64.specs.Nearest.{nearest}
-use Rattle.binary64.specs.Ieee.{ZeroOrNormal, ZeroOrLarge, roundToIntegral, towardZero, tiesToEven, TruncateIsIeee, NearestIsIeee}
+use Rattle.binary64.specs.Ieee.{ZeroOrNormal, ZeroOrLarge, roundToIntegral, towardNegative, towardZero, tiesToEven, FloorIsIeee, TruncateIsIeee, NearestIsIeee}
 use Rattle.binary64.proofs.Cases.{lt-or-ge, if-le, if-not-le}
 use Rattle.binary64.proofs.Round.{bits-exact}
 use Rattle.binary64.proofs.WholeMeaning.{multiple-ge, WholeRule, toward-zero, ties-to-even, roundedBy, rule-large}
-use Rattle.binary64.proofs.Ieee.{negative, value, negative-is, round-52}
+use Rattle.binary64.proofs.FloorMeaning.{toward-negative, floor-rounded}
+use Rattle.binary64.proofs.Ieee.{bit, negative, value, negative-is, round-52}
 
 -- ---- a normal number rounds to itself
 pub normal-word : (a : ℕ) → 1 ≤ expo a → expo a ≤ 2046 → signed (sign a) (magBits 52 (magnitude a)) ≡ a
@@ -73,6 +74,10 @@ module _ (rule : Bool → ℕ → ℕ → ℕ) (R : (s : Bool) → WholeRule (ru
       normal : ZeroOrNormal a → 1075 ≤ expo a → expo a ≤ 2046
       normal (inl z) h = absurd (omega (arith, z .0))
       normal (inr z) h = z .1
+
+pub floor-is-ieee : FloorIsIeee
+unfolding bit
+floor-is-ieee a ha z = floor-rounded a (negative a) (negative-is a ha) ∙ rounded-is-ieee towardNegative toward-negative a ha z
 
 pub truncate-is-ieee : TruncateIsIeee
 unfolding truncate

@@ -17,10 +17,10 @@ use Rattle.binary64.proofs.Round.{bits-zero, round-scale, round-tie, fi
 use Rattle.binary64.proofs.Dropping.{exact-bits, fraction-dropped, whole-odd, whole-part}
 
 -- ---- the words of 0 and 1
-whole-zero : (s : ℕ) → wholeNumber s 0 ≡ signed s 0
+pub whole-zero : (s : ℕ) → wholeNumber s 0 ≡ signed s 0
 whole-zero s = ap (signed s) (ap (magBits 52) (zero-mul (2 ^ 1074)) ∙ bits-zero 52)
 
-one-bits : magBits 52 (1 * 2 ^ 1074) ≡ 1023 * 2 ^ 52
+pub one-bits : magBits 52 (1 * 2 ^ 1074) ≡ 1023 * 2 ^ 52
 one-bits = exact-bits (2 ^ 52) 1022 (omega arith) (omega arith) (omega arith)
 
 -- ---- n units of 2^u and d of 2^e, where 2^(j+1) of these make one of those, rounded to whole units of 2^u

@@ -3,9 +3,10 @@
 use mathlib.Core.Path.{_≡_, sym, ap, ap₂, _∙_}
 use mathlib.Core.Bool.{Bool, cond}
 use mathlib.Core.Logic.{inl, inr}
-use Prim.Native.Nat.{ℕ, suc, _+_, _-_, _*_, _/_, _%_, _^_, _≤_, _<_, min}
-use native.Mathlib.Nat.{add-zero, mod-eq-of-lt, div-add-mod'}
+use Prim.Native.Nat.{ℕ, zero, suc, _+_, _-_, _*_, _/_, _%_, _^_, _≤_, _<_, min}
+use native.Mathlib.Nat.{add-zero, mod-eq-of-lt, mod-lt, div-add-mod'}
 use native.Mathlib.Omega.{arith}
+use lib.Arith.{digits-div}
 use lib.Bits.{bitAnd, and-mask}
 use lib.Dec.{ltb, eqb}
 use lib.Pow.{pow-pos, pow-mono, ones-split, ones-lt, high}
@@ -16,7 +17,7 @@ use Rattle.binary64.specs.Nearest.{nearest}
 use Rattle.binary64.specs.Steps.{loweredBy, FractionOf, LastWholeOf}
 use Rattle.binary64.proofs.Cases.{lt-or-ge, by-lt, by-eq}
 use Rattle.binary64.proofs.Round.{half-added}
-use Rattle.binary64.proofs.FloorModel.{floor-large, floor-small-plus, floor-small-minus, floor-plus, floor-minus}
+use Rattle.binary64.proofs.FloorModel.{floor-large, floor-zero, floor-small-plus, floor-small-minus, floor-plus, floor-minus}
 use Rattle.binary64.proofs.WholeModel.{truncate-large, truncate-small, truncate-between, nearest-large, nearest-small, nearest-half, nearest-between}
 
 -- ---- what is taken by the range of E
@@ -46,25 +47,50 @@ room : (a k : ℕ) → a < 2 ^ 64 → expo a < 1075 → k ≤ 52 → a + 2 ^ k <
 room a k h l le = let p : 2 ^ k ≤ 2 ^ 52 = pow-mono {i = k} {j = 52} le in omega arith
 
 -- ---- floor
-lowered : (a k : ℕ) → a + 2 ^ k < 2 ^ 64 → loweredBy (2 ^ k - 1) a ≡ cond (eqb (sign a) 0) (a / 2 ^ k * 2 ^ k) ((a + (2 ^ k - 1)) / 2 ^ k * 2 ^ k)
+-- raised by p - 1 first: the quotient is rounded up
+ceiling : (x p : ℕ) → 0 < p → (x + (p - 1)) / p ≡ x / p + min (x % p) 1
+ceiling x p h = go (x / p) (x % p) (div-add-mod' x p) (mod-lt x h)
+  where
+    go : (q r : ℕ) → q * p + r ≡ x → r < p → (x + (p - 1)) / p ≡ q + min r 1
+    go q zero e l =
+        let s : x + (p - 1) ≡ q * p + (p - 1) = omega arith in
+        ap (λ (z : ℕ). z / p) s ∙ digits-div q (omega arith) ∙ omega arith
+    go q (suc r) e l =
+        let s : x + (p - 1) ≡ (q + 1) * p + r = omega arith in
+        ap (λ (z : ℕ). z / p) s ∙ digits-div (q + 1) (omega arith) ∙ omega arith
+
+lowered : (a k : ℕ) → a + 2 ^ k < 2 ^ 64 → loweredBy (2 ^ k - 1) a ≡ cond (eqb (sign a) 0) (a / 2 ^ k * 2 ^ k) ((a / 2 ^ k + min (a % 2 ^ k) 1) * 2 ^ k)
 unfolding loweredBy
 lowered a k h =
-    by-eq (λ (b : Bool). raised b - bitAnd (raised b) (2 ^ k - 1) ≡ cond b (a / 2 ^ k * 2 ^ k) ((a + (2 ^ k - 1)) / 2 ^ k * 2 ^ k)) (sign a) 0
+    by-eq (λ (b : Bool). raised b - bitAnd (raised b) (2 ^ k - 1) ≡ cond b (a / 2 ^ k * 2 ^ k) ((a / 2 ^ k + min (a % 2 ^ k) 1) * 2 ^ k)) (sign a) 0
     (λ _. ap (λ (t : ℕ). t - bitAnd t (2 ^ k - 1)) (omega arith) ∙ without a k)
-    (λ _. ap (λ (t : ℕ). t - bitAnd t (2 ^ k - 1)) (mod-eq-of-lt (omega (arith, pow-pos k))) ∙ without (a + (2 ^ k - 1)) k)
+    (λ _. ap (λ (t : ℕ). t - bitAnd t (2 ^ k - 1)) (mod-eq-of-lt (omega (arith, pow-pos k))) ∙ without (a + (2 ^ k - 1)) k
+    ∙ ap (λ (q : ℕ). q * 2 ^ k) (ceiling a (2 ^ k) (pow-pos k)))
   where
     raised : Bool → ℕ
     raised b = (a + cond b 0 (2 ^ k - 1)) % 2 ^ 64
 
-pub floor-selected : (a f : ℕ) → a < 2 ^ 64 → FractionOf a f
-    → cond (ltb (expo a) 1023) (cond (eqb (sign a) 0) 0 0xBFF0000000000000) (cond (ltb (expo a) 1075) (loweredBy f a) a) ≡ floor a
-floor-selected a f ha hf =
-    by-range a _ _ (floor a)
-    (λ l. by-eq (λ (b : Bool). cond b 0 0xBFF0000000000000 ≡ floor a) (sign a) 0 (λ e. sym (floor-small-plus a l e)) (λ n. sym (floor-small-minus a l n)))
+-- below 1: what is above 800FFFFFFFFFFFFF, a negative number that is no zero, becomes −1
+floor-below-one : (a : ℕ) → a < 2 ^ 64 → expo a < 1023 → signed (sign a) (cond (ltb 0x800FFFFFFFFFFFFF a) (1023 * 2 ^ 52) 0) ≡ floor a
+floor-below-one a ha h =
+    by-lt (λ (t : Bool). signed (sign a) (cond t (1023 * 2 ^ 52) 0) ≡ floor a) 0x800FFFFFFFFFFFFF a
+    (λ g.
+    let s : sign a ≡ 1 = omega arith in
+    ap (λ (s : ℕ). signed s (1023 * 2 ^ 52)) s ∙ sym (floor-small-minus a (omega arith) h (λ z. omega arith)))
+    (λ l. elim (lt-or-ge (sign a) 1) [
+      | inl z ↦ let s : sign a ≡ 0 = omega arith in ap (λ (s : ℕ). signed s 0) s ∙ sym (floor-small-plus a h s)
+      | inr g ↦ sym (floor-zero a (omega arith))
+    ])
+
+-- over the code's own words: b what stands for a below 1, r the lowered word, v what is taken
+pub floor-selected : (a f b r v : ℕ) → a < 2 ^ 64 → FractionOf a f → b ≡ signed (sign a) (cond (ltb 0x800FFFFFFFFFFFFF a) (1023 * 2 ^ 52) 0) → r ≡ loweredBy f a
+    → v ≡ cond (ltb (expo a) 1023) b (cond (ltb (expo a) 1075) r a) → v ≡ floor a
+floor-selected a f b r v ha hf hb hr hv =
+    hv ∙ by-range a b r (floor a) (λ l. hb ∙ floor-below-one a ha l)
     (λ g l.
     let k = 1075 - expo a in
-    ap (λ (f : ℕ). loweredBy f a) (hf g l) ∙ lowered a k (room a k ha l (omega arith))
-    ∙ by-eq (λ (b : Bool). cond b (a / 2 ^ k * 2 ^ k) ((a + (2 ^ k - 1)) / 2 ^ k * 2 ^ k) ≡ floor a) (sign a) 0 (λ e. sym (floor-plus a g l e)) (λ n. sym (floor-minus a g l n)))
+    hr ∙ ap (λ (f : ℕ). loweredBy f a) (hf g l) ∙ lowered a k (room a k ha l (omega arith))
+    ∙ by-eq (λ (b : Bool). cond b (a / 2 ^ k * 2 ^ k) ((a / 2 ^ k + min (a % 2 ^ k) 1) * 2 ^ k) ≡ floor a) (sign a) 0 (λ e. sym (floor-plus a g l e)) (λ n. sym (floor-minus a g l n)))
     (λ l. sym (floor-large a l))
 
 -- ---- truncation

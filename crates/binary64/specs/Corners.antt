@@ -1,4 +1,4 @@
--- Document 01's sentences, and those of document 02, No. 1, on zeros, underflow, cancellation, the roundings' outer ranges and E = 2047, as statements:
+-- Document 01's sentences, and those of document 02, No. 1 and No. 2, on zeros, underflow, cancellation, the roundings' outer ranges and E = 2047, as statements:
 -- `corners` proves them together.
 -- Magnitudes are in units of 2^-1074, so 2^-1022 is 2^52 of them; a product's are in units of 2^-2148, so 2^-1022 is 2^1126.
 use mathlib.Core.Path.{_≡_}
@@ -37,9 +37,13 @@ pub record Corners : Type 0 where
   pub cancellation : (a b : ℕ) → (sign a ≡ sign b → ⊥) → magnitude a ≡ magnitude b → sum a b ≡ 0
   -- "Floor: E ≥ 1075 returns the operand."
   pub floor-large : (a : ℕ) → 1075 ≤ expo a → floor a ≡ a
-  -- "E < 1023 gives plus zero for s = 0 and −1 for s = 1, minus zero among them."
+  -- document 02, No. 2: "floor of any operand with E = 0 is the zero of its sign", whatever F
+  pub floor-zero : (a : ℕ) → expo a ≡ 0 → floor a ≡ signed (sign a) 0
+  -- "E < 1023 gives plus zero for s = 0 and −1 for s = 1", and No. 2: "Other negatives above −1 still give −1"
   pub floor-small-plus : (a : ℕ) → expo a < 1023 → sign a ≡ 0 → floor a ≡ 0
-  pub floor-small-minus : (a : ℕ) → expo a < 1023 → sign a ≡ 1 → floor a ≡ 0xBFF0000000000000
+  pub floor-small-minus : (a : ℕ) → 1 ≤ expo a → expo a < 1023 → sign a ≡ 1 → floor a ≡ 0xBFF0000000000000
+  -- that word is −1
+  pub minus-one : (sign 0xBFF0000000000000 ≡ 1) × (magnitude 0xBFF0000000000000 ≡ 1 * 2 ^ 1074)
   -- document 02, No. 1: "E of 1075 or more returns the operand."
   pub truncate-large : (a : ℕ) → 1075 ≤ expo a → truncate a ≡ a
   pub nearest-large : (a : ℕ) → 1075 ≤ expo a → nearest a ≡ a

@@ -1,5 +1,5 @@
--- Document 01, "Operands at the edges": the table, row by row; and one of the same kind for truncation and nearest. An operation with one operand does not
--- use the second.
+-- Document 01, "Operands at the edges": the table, row by row; and one of the same kind for the three roundings, an operand to a row. An operation with one operand
+-- does not use the second.
 use mathlib.Core.Path.{_≡_}
 use mathlib.Core.Bool.{Bool, true, _&&_}
 use mathlib.Core.List.{List, [], _∷_}
@@ -13,7 +13,7 @@ pub record Row : Type 0 where
   pub b : ℕ
   pub result : ℕ
 
--- "product (P), sum (S), floor (F)", and the later operations
+-- "product (P), sum (S), floor (F)"
 abbrev pub edge : Operation → ℕ → ℕ → ℕ → Row
 edge o a b r = record { op = o; a = a; b = b; result = r }
 
@@ -33,48 +33,48 @@ edges =
     ∷ edge Floor 0x4330000000000001 0 0x4330000000000001
     ∷ []
 
--- 0.5, 1.5, 2.5 and the same below zero; the largest number below 0.5, and the next number below −0.5; 3, and 3.7; with E = 1074 2^52 − 0.5 of both signs and
--- 2^51 + 0.5, with E = 1075 the next number after 2^52; minus zero, E = 0 with F ≠ 0, and E = 2047. 2^52 + 0.5 is no binary64 number: from 2^52 on all are whole.
-unfoldable pub roundingEdges : List Row
+-- an operand of the roundings, and what each of them makes of it
+pub record Wholes : Type 0 where
+  pub operand : ℕ
+  pub floored : ℕ
+  pub truncated : ℕ
+  pub nearest : ℕ
+
+abbrev pub wholes : ℕ → ℕ → ℕ → ℕ → Wholes
+wholes a f t n = record { operand = a; floored = f; truncated = t; nearest = n }
+
+-- 0.5, 1.5, 2.5 of both signs; the largest number below 0.5, and the next number below −0.5; the numbers next to 1 and to −1 on the side of zero, −1, and the next number
+-- below it; 3, and 3.7; with E = 1074 2^52 − 0.5 of both signs and 2^51 + 0.5, with E = 1075 the next number after 2^52; both zeros, E = 0 with F ≠ 0, and next to these
+-- the least normal number of both signs; E = 2047. 2^52 + 0.5 is no binary64 number: from 2^52 on all are whole.
+unfoldable pub roundingEdges : List Wholes
 roundingEdges =
-    edge Truncate 0x3FE0000000000000 0 0
-    ∷ edge Nearest 0x3FE0000000000000 0 0
-    ∷ edge Truncate 0x3FF8000000000000 0 0x3FF0000000000000
-    ∷ edge Nearest 0x3FF8000000000000 0 0x4000000000000000
-    ∷ edge Truncate 0x4004000000000000 0 0x4000000000000000
-    ∷ edge Nearest 0x4004000000000000 0 0x4000000000000000
-    ∷ edge Truncate 0xBFE0000000000000 0 0x8000000000000000
-    ∷ edge Nearest 0xBFE0000000000000 0 0x8000000000000000
-    ∷ edge Truncate 0xBFF8000000000000 0 0xBFF0000000000000
-    ∷ edge Nearest 0xBFF8000000000000 0 0xC000000000000000
-    ∷ edge Truncate 0xC004000000000000 0 0xC000000000000000
-    ∷ edge Nearest 0xC004000000000000 0 0xC000000000000000
-    ∷ edge Truncate 0x3FDFFFFFFFFFFFFF 0 0
-    ∷ edge Nearest 0x3FDFFFFFFFFFFFFF 0 0
-    ∷ edge Truncate 0xBFE0000000000001 0 0x8000000000000000
-    ∷ edge Nearest 0xBFE0000000000001 0 0xBFF0000000000000
-    ∷ edge Truncate 0x4008000000000000 0 0x4008000000000000
-    ∷ edge Nearest 0x4008000000000000 0 0x4008000000000000
-    ∷ edge Truncate 0x400D99999999999A 0 0x4008000000000000
-    ∷ edge Nearest 0x400D99999999999A 0 0x4010000000000000
-    ∷ edge Truncate 0x432FFFFFFFFFFFFF 0 0x432FFFFFFFFFFFFE
-    ∷ edge Nearest 0x432FFFFFFFFFFFFF 0 0x4330000000000000
-    ∷ edge Truncate 0xC32FFFFFFFFFFFFF 0 0xC32FFFFFFFFFFFFE
-    ∷ edge Nearest 0xC32FFFFFFFFFFFFF 0 0xC330000000000000
-    ∷ edge Truncate 0x4320000000000001 0 0x4320000000000000
-    ∷ edge Nearest 0x4320000000000001 0 0x4320000000000000
-    ∷ edge Truncate 0x4330000000000001 0 0x4330000000000001
-    ∷ edge Nearest 0x4330000000000001 0 0x4330000000000001
-    ∷ edge Truncate 0x8000000000000000 0 0x8000000000000000
-    ∷ edge Nearest 0x8000000000000000 0 0x8000000000000000
-    ∷ edge Truncate 0x0000000000000001 0 0
-    ∷ edge Nearest 0x0000000000000001 0 0
-    ∷ edge Truncate 0x800FFFFFFFFFFFFF 0 0x8000000000000000
-    ∷ edge Nearest 0x800FFFFFFFFFFFFF 0 0x8000000000000000
-    ∷ edge Truncate 0x7FF8000000000001 0 0x7FF8000000000001
-    ∷ edge Nearest 0x7FF8000000000001 0 0x7FF8000000000001
-    ∷ edge Truncate 0xFFF0000000000000 0 0xFFF0000000000000
-    ∷ edge Nearest 0xFFF0000000000000 0 0xFFF0000000000000
+    wholes 0x3FE0000000000000 0 0 0
+    ∷ wholes 0xBFE0000000000000 0xBFF0000000000000 0x8000000000000000 0x8000000000000000
+    ∷ wholes 0x3FF8000000000000 0x3FF0000000000000 0x3FF0000000000000 0x4000000000000000
+    ∷ wholes 0xBFF8000000000000 0xC000000000000000 0xBFF0000000000000 0xC000000000000000
+    ∷ wholes 0x4004000000000000 0x4000000000000000 0x4000000000000000 0x4000000000000000
+    ∷ wholes 0xC004000000000000 0xC008000000000000 0xC000000000000000 0xC000000000000000
+    ∷ wholes 0x3FDFFFFFFFFFFFFF 0 0 0
+    ∷ wholes 0xBFE0000000000001 0xBFF0000000000000 0x8000000000000000 0xBFF0000000000000
+    ∷ wholes 0x3FEFFFFFFFFFFFFF 0 0 0x3FF0000000000000
+    ∷ wholes 0xBFEFFFFFFFFFFFFF 0xBFF0000000000000 0x8000000000000000 0xBFF0000000000000
+    ∷ wholes 0xBFF0000000000000 0xBFF0000000000000 0xBFF0000000000000 0xBFF0000000000000
+    ∷ wholes 0xBFF0000000000001 0xC000000000000000 0xBFF0000000000000 0xBFF0000000000000
+    ∷ wholes 0x4008000000000000 0x4008000000000000 0x4008000000000000 0x4008000000000000
+    ∷ wholes 0x400D99999999999A 0x4008000000000000 0x4008000000000000 0x4010000000000000
+    ∷ wholes 0x432FFFFFFFFFFFFF 0x432FFFFFFFFFFFFE 0x432FFFFFFFFFFFFE 0x4330000000000000
+    ∷ wholes 0xC32FFFFFFFFFFFFF 0xC330000000000000 0xC32FFFFFFFFFFFFE 0xC330000000000000
+    ∷ wholes 0x4320000000000001 0x4320000000000000 0x4320000000000000 0x4320000000000000
+    ∷ wholes 0x4330000000000001 0x4330000000000001 0x4330000000000001 0x4330000000000001
+    ∷ wholes 0 0 0 0
+    ∷ wholes 0x8000000000000000 0x8000000000000000 0x8000000000000000 0x8000000000000000
+    ∷ wholes 0x0000000000000001 0 0 0
+    ∷ wholes 0x8000000000000001 0x8000000000000000 0x8000000000000000 0x8000000000000000
+    ∷ wholes 0x800FFFFFFFFFFFFF 0x8000000000000000 0x8000000000000000 0x8000000000000000
+    ∷ wholes 0x0010000000000000 0 0 0
+    ∷ wholes 0x8010000000000000 0xBFF0000000000000 0x8000000000000000 0x8000000000000000
+    ∷ wholes 0x7FF8000000000001 0x7FF8000000000001 0x7FF8000000000001 0x7FF8000000000001
+    ∷ wholes 0xFFF0000000000000 0xFFF0000000000000 0xFFF0000000000000 0xFFF0000000000000
     ∷ []
 
 -- every row of a table holds
@@ -82,9 +82,15 @@ abbrev pub allHold : List Row → Bool
 allHold [] = true
 allHold (r ∷ rs) = eqb (onWords (r .op) (r .a) (r .b)) (r .result) && allHold rs
 
+abbrev pub wholesHold : List Wholes → Bool
+wholesHold [] = true
+wholesHold (r ∷ rs) =
+    (eqb (onWords Floor (r .operand) 0) (r .floored) && (eqb (onWords Truncate (r .operand) 0) (r .truncated) && eqb (onWords Nearest (r .operand) 0) (r .nearest)))
+    && wholesHold rs
+
 -- "Proved together in one table"
 abbrev pub EdgesHold : Type 0
 EdgesHold = allHold edges ≡ true
 
 abbrev pub RoundingEdgesHold : Type 0
-RoundingEdgesHold = allHold roundingEdges ≡ true
+RoundingEdgesHold = wholesHold roundingEdges ≡ true

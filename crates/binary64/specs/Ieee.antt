@@ -6,18 +6,18 @@
 -- - An exact result that is not zero and below 2^-1022 is a zero of its sign here. There it is rounded to a multiple of 2^-1074: to a zero or a subnormal number,
 --   or, if it is a product just below 2^-1022, to that least normal number (0010000000000001 times 3FEFFFFFFFFFFFFE; 001FFFFFFFFFFFFF times 3FE0000000000000).
 -- - An operand with E = 2047 is a number here, an infinity or NaN there.
--- - The floor of minus zero is -1 here, minus zero there. Floor has no statement in this file: Meaning says what it is.
--- Truncation and nearest agree for every zero and normal operand. The first and the third of these places concern them too; what they give there is not compared here.
+-- Floor, truncation and nearest agree for every zero and normal operand. The first and the third of these places concern them too; what they give there is not compared here.
 use mathlib.Core.Path.{_≡_}
 use mathlib.Core.Logic.{_⊎_}
 use mathlib.Core.Bool.{Bool, cond}
-use Prim.Native.Nat.{ℕ, _+_, _-_, _*_, _/_, _^_, _≤_, _<_}
+use Prim.Native.Nat.{ℕ, _+_, _-_, _*_, _/_, _%_, _^_, _≤_, _<_, min}
 use lib.Dec.{eqb}
 use lib.Ieee.{Float, nan, inf, fin, binary64, up, down, round, ofBits, toBits, mul, add}
 use lib.Ieee.Nearest.{closest}
 use Rattle.binary64.specs.Number.{sign, expo, frac, magnitude}
 use Rattle.binary64.specs.Product.{product}
 use Rattle.binary64.specs.Sum.{sum}
+use Rattle.binary64.specs.Floor.{floor}
 use Rattle.binary64.specs.Truncate.{truncate}
 use Rattle.binary64.specs.Nearest.{nearest}
 
@@ -51,12 +51,19 @@ roundToIntegral rule nan = nan
 roundToIntegral rule (inf s) = inf s
 roundToIntegral rule (fin s m e) = round binary64 s (rule s (m * up e) (down e)) 1
 
+-- roundToIntegralTowardNegative's rule: of the whole numbers on both sides the lower, which has the larger magnitude below zero
+abbrev pub towardNegative : Bool → ℕ → ℕ → ℕ
+towardNegative s a b = cond s (a / b + min (a % b) 1) (a / b)
+
 -- roundToIntegralTowardZero's rule and roundToIntegralTiesToEven's
 abbrev pub towardZero : Bool → ℕ → ℕ → ℕ
 towardZero s a b = a / b
 
 abbrev pub tiesToEven : Bool → ℕ → ℕ → ℕ
 tiesToEven s a b = closest a b
+
+abbrev pub FloorIsIeee : Type 0
+FloorIsIeee = (a : ℕ) → a < 2 ^ 64 → ZeroOrNormal a → floor a ≡ toBits binary64 (roundToIntegral towardNegative (ofBits binary64 a))
 
 abbrev pub TruncateIsIeee : Type 0
 TruncateIsIeee = (a : ℕ) → a < 2 ^ 64 → ZeroOrNormal a → truncate a ≡ toBits binary64 (roundToIntegral towardZero (ofBits binary64 a))

@@ -31,23 +31,18 @@ pub record Rounded (u M r : ℕ) : Type 0 where
 abbrev pub RoundingMeans : Type 0
 RoundingMeans = (u M : ℕ) → 52 ≤ u → 2 ^ u ≤ M → Rounded u M (magBits u M)
 
--- r is a whole number, `whole` in magnitude, of a's sign; a lies from it up to its upper neighbour, that one left out
+-- r is the whole number of a's sign, a zero among them, whose magnitude is `whole`; it is not above a, and the next whole number is. Below zero the larger
+-- magnitude is the smaller number, and the next one is `whole` less 1 in magnitude, or 1 after minus zero.
 pub record GreatestWhole (a r : ℕ) : Type 0 where
   pub whole : ℕ
   pub reads : magnitude r ≡ whole * 2 ^ 1074
   pub sign-kept : sign r ≡ sign a
-  pub plus : sign a ≡ 0 → (whole * 2 ^ 1074 ≤ magnitude a) × (magnitude a < suc whole * 2 ^ 1074)
-  pub minus : sign a ≡ 1 → (magnitude a ≤ whole * 2 ^ 1074) × (0 < whole) × ((whole - 1) * 2 ^ 1074 < magnitude a)
+  pub plus : sign a ≡ 0 → (whole * 2 ^ 1074 ≤ magnitude a) × (magnitude a < whole * 2 ^ 1074 + 2 ^ 1074)
+  pub minus : sign a ≡ 1 → (magnitude a ≤ whole * 2 ^ 1074) × (whole * 2 ^ 1074 < magnitude a + 2 ^ 1074)
 
--- "the greatest whole number not above the operand", for every operand but minus zero
+-- "the greatest whole number not above the operand", for every operand
 abbrev pub FloorMeans : Type 0
-FloorMeans = (a : ℕ) → a < 2 ^ 64 → (sign a ≡ 1 → magnitude a ≡ 0 → ⊥) → GreatestWhole a (floor a)
-
--- "−1 for s = 1, minus zero among them": the word for -1, and what minus zero gives
-abbrev pub FloorMinusZero : Type 0
-FloorMinusZero =
-    (sign 0xBFF0000000000000 ≡ 1) × (magnitude 0xBFF0000000000000 ≡ 1 * 2 ^ 1074)
-    × ((a : ℕ) → a < 2 ^ 64 → sign a ≡ 1 → magnitude a ≡ 0 → floor a ≡ 0xBFF0000000000000)
+FloorMeans = (a : ℕ) → a < 2 ^ 64 → GreatestWhole a (floor a)
 
 -- r is the whole number of a's sign whose magnitude, `whole`, is the greatest not above a's
 pub record WholePart (a r : ℕ) : Type 0 where

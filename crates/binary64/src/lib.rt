@@ -8,7 +8,6 @@ mod select;
 mod whole;
 
 use crate::select::choose;
-use crate::select::kept;
 ghost use mathlib.Core.Path.{_≡_};
 ghost use Rattle.binary64.specs.Floor.{floor};
 ghost use Rattle.binary64.specs.Nearest.{nearest};
@@ -31,13 +30,13 @@ pub fn sum(a: u64, b: u64) -> u64
     add::ordered(choose(less, b, a), choose(less, a, b))
 }
 
-// The greatest whole number not above the operand; -1 for minus zero.
+// The greatest whole number not above the operand, a zero with the operand's sign. Below 1 in magnitude, a negative number that is no zero becomes -1.
 pub fn floor(a: u64) -> u64
     ensures { λ r. ⌜ r ≡ floor a ⌝ }
 {
     let lowered = whole::lower(a, whole::fraction(a));
-    let small = kept(fields::sign_bit(a) != 0, 0xbff0_0000_0000_0000);
-    whole::by_range(a, small, lowered)
+    let below = 0x800f_ffff_ffff_ffff < a;
+    whole::by_range(a, whole::below_one(a, below), lowered)
 }
 
 // The whole part, with the operand's sign.

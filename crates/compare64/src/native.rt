@@ -146,24 +146,9 @@ fn whole(x: f64) -> f64 {
     if n > x { n - 1.0 } else { n }
 }
 
-// Minus zero is where document 01 has -1.
-pub fn floor(a: u64) -> u64 {
-    if !plain(a) {
-        return SKIPPED;
-    }
-    if a == 0x8000_0000_0000_0000 {
-        return apart(binary64::floor(a), 0xbff0_0000_0000_0000);
-    }
-    let x = number(a);
-    if magnitude(a) < WHOLE {
-        return compared(binary64::floor(a), bits(whole(x)));
-    }
-    compared(binary64::floor(a), bits(x))
-}
-
-// A rounding that keeps the sign: `size` is what the magnitude rounds to natively, and the sign of a is put back; from 2^52 on a is whole. At
-// E = 0 the two agree whatever F is, for what IEEE 754 reads there rounds to a zero too. At E = 2047, where it reads no number, document 02
-// has the operand.
+// A rounding that keeps the sign: `size` is what the number or its magnitude rounds to natively, and the sign of a is put back; from 2^52 on a is
+// whole. At E = 0 the two agree whatever F is, for what IEEE 754 reads there rounds to a zero too, but for floor below zero. At E = 2047, where it
+// reads no number, the documents have the operand.
 fn sign_kept(ours: u64, a: u64, size: f64) -> u64 {
     let m = magnitude(a);
     if m < WHOLE {
@@ -173,6 +158,16 @@ fn sign_kept(ours: u64, a: u64, size: f64) -> u64 {
         return compared(ours, bits(number(a)));
     }
     apart(ours, a)
+}
+
+// A negative number with E = 0 is a zero in the documents; where its F is not 0, IEEE 754 reads a number, above -1.
+pub fn floor(a: u64) -> u64 {
+    if 0x8000_0000_0000_0000 < a {
+        if a < 0x8010_0000_0000_0000 {
+            return apart(binary64::floor(a), 0x8000_0000_0000_0000);
+        }
+    }
+    sign_kept(binary64::floor(a), a, whole(number(a)))
 }
 
 // The magnitude's floor, by the adder too: Rattle's conversions that drop a fraction do so on the bits, and not by the processor's own.

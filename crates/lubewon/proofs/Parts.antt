@@ -118,7 +118,7 @@ dropped : {a k u : ℕ} → Dropped a k u → Dropped a k u
 dropped h = record { word = h .word; rest = h .rest; last = h .last }
 
 corners : Corners → Corners
-corners h = record { reads-zero = h .reads-zero; reads-number = h .reads-number; product-sign = h .product-sign; product-underflow = h .product-underflow; product-before-rounding = h .product-before-rounding; product-rounded-first = h .product-rounded-first; sum-underflow = h .sum-underflow; difference-underflow = h .difference-underflow; zeros-minus = h .zeros-minus; zeros-plus = h .zeros-plus; cancellation = h .cancellation; floor-large = h .floor-large; floor-small-plus = h .floor-small-plus; floor-small-minus = h .floor-small-minus; truncate-large = h .truncate-large; nearest-large = h .nearest-large; truncate-small = h .truncate-small; nearest-small = h .nearest-small; nearest-half = h .nearest-half; no-nan = h .no-nan; no-infinity = h .no-infinity; zero-times = h .zero-times }
+corners h = record { reads-zero = h .reads-zero; reads-number = h .reads-number; product-sign = h .product-sign; product-underflow = h .product-underflow; product-before-rounding = h .product-before-rounding; product-rounded-first = h .product-rounded-first; sum-underflow = h .sum-underflow; difference-underflow = h .difference-underflow; zeros-minus = h .zeros-minus; zeros-plus = h .zeros-plus; cancellation = h .cancellation; floor-large = h .floor-large; floor-zero = h .floor-zero; floor-small-plus = h .floor-small-plus; floor-small-minus = h .floor-small-minus; minus-one = h .minus-one; truncate-large = h .truncate-large; nearest-large = h .nearest-large; truncate-small = h .truncate-small; nearest-small = h .nearest-small; nearest-half = h .nearest-half; no-nan = h .no-nan; no-infinity = h .no-infinity; zero-times = h .zero-times }
 
 computes : {plan : List ℕ} {op : ℕ → ℕ → ℕ} → Computes plan op → Computes plan op
 computes h = record { short = h .short; none-bad = h .none-bad; entries = h .entries; result = h .result }

@@ -1,8 +1,9 @@
 -- Most claims once more, at their arguments and with every condition written out: one that is narrowed, or that asks for more, fails here. Left
 -- out are the plain machine's laws, the corners, the examples and the turn-downs. Parts does this for the records inside the statements.
-use mathlib.Core.Path.{_≡_, refl}
+use mathlib.Core.Path.{_≡_, refl, _∙_}
 use mathlib.Core.Logic.{_⊎_}
 use mathlib.Core.List.{List}
+use native.Mathlib.Nat.{add-zero}
 use lib.Dec.{T}
 use Prim.Native.Nat.{ℕ, suc, _+_, _-_, _*_, _^_, _≤_, _<_}
 use lib.Ieee.{binary64, ofBits, toBits, mul, add}
@@ -32,7 +33,7 @@ use Rattle.binary64.specs.Whole.{Dropped}
 use Rattle.binary64.specs.Floor.{floor}
 use Rattle.binary64.specs.Truncate.{truncate}
 use Rattle.binary64.specs.Nearest.{nearest}
-use Rattle.binary64.specs.Ieee.{exactSum, roundToIntegral, towardZero, tiesToEven}
+use Rattle.binary64.specs.Ieee.{exactSum, roundToIntegral, towardNegative, towardZero, tiesToEven}
 use Rattle.binary64.specs.Meaning.{Rounded, GreatestWhole, WholePart, NearestWhole}
 use Rattle.binary64.specs.Edges.{edges, roundingEdges}
 use Rattle.binary64.specs.Operations.{Product, Sum, Floor, Truncate, Nearest}
@@ -125,11 +126,15 @@ module _ (C : Claims) where
   rounded : (u M : ℕ) → 52 ≤ u → 2 ^ u ≤ M → Rounded u M (magBits u M)
   rounded = C .rounding-means
 
-  floored : (a : ℕ) → a < 2 ^ 64 → (sign a ≡ 1 → magnitude a ≡ 0 → ⊥) → GreatestWhole a (floor a)
+  floored : (a : ℕ) → a < 2 ^ 64 → GreatestWhole a (floor a)
   floored = C .floor-means
 
-  minus-one : (a : ℕ) → a < 2 ^ 64 → sign a ≡ 1 → magnitude a ≡ 0 → floor a ≡ 0xBFF0000000000000
-  minus-one = C .floor-minus-zero .2
+  -- E = 0 is the zero of its sign, other negatives above −1 give −1
+  floor-of-zero : (a : ℕ) → expo a ≡ 0 → floor a ≡ sign a * 2 ^ 63
+  floor-of-zero a e = C .corners .floor-zero a e ∙ add-zero (sign a * 2 ^ 63)
+
+  floor-of-small : (a : ℕ) → 1 ≤ expo a → expo a < 1023 → sign a ≡ 1 → floor a ≡ 0xBFF0000000000000
+  floor-of-small = C .corners .floor-small-minus
 
   truncated : (a : ℕ) → a < 2 ^ 64 → WholePart a (truncate a)
   truncated = C .truncate-means
@@ -150,14 +155,17 @@ module _ (C : Claims) where
       → sum a b ≡ toBits binary64 (add binary64 (ofBits binary64 a) (ofBits binary64 b))
   sum-ieee = C .sum-is-ieee
 
+  floor-ieee : (a : ℕ) → a < 2 ^ 64 → Alike a → floor a ≡ toBits binary64 (roundToIntegral towardNegative (ofBits binary64 a))
+  floor-ieee = C .floor-is-ieee
+
   truncate-ieee : (a : ℕ) → a < 2 ^ 64 → Alike a → truncate a ≡ toBits binary64 (roundToIntegral towardZero (ofBits binary64 a))
   truncate-ieee = C .truncate-is-ieee
 
   nearest-ieee : (a : ℕ) → a < 2 ^ 64 → Alike a → nearest a ≡ toBits binary64 (roundToIntegral tiesToEven (ofBits binary64 a))
   nearest-ieee = C .nearest-is-ieee
 
-  -- the tables have twelve rows and thirty-eight
-  rows : (length edges ≡ 12) × (length roundingEdges ≡ 38)
+  -- the tables have twelve rows and twenty-seven
+  rows : (length edges ≡ 12) × (length roundingEdges ≡ 27)
   unfolding edges roundingEdges
   rows = (refl, refl)
 
@@ -177,7 +185,10 @@ module _ (C : Claims) where
   nearest-plan : Computes nearestPlan (λ a b. nearest a)
   nearest-plan = C .built-ins Nearest .computes
 
-  -- the tape words of truncation and nearest
+  -- the tape words of the roundings
+  floor-tape : (n : ℕ) → 2 ≤ n → n ≤ 8 → foretoldTape n floorPlan ≤ 12 * (n * (n - 1))
+  floor-tape = C .built-ins Floor .cost .tape
+
   truncate-tape : (n : ℕ) → 2 ≤ n → n ≤ 8 → foretoldTape n truncatePlan ≤ 5 * (n * (n - 1))
   truncate-tape = C .built-ins Truncate .cost .tape
 

@@ -12,9 +12,9 @@ use Rattle.masking.specs.Leaks.{UnrefreshedLeaks}
 use Rattle.masking.specs.EveryShare.{EveryShareWrong}
 use Rattle.masking.specs.Examples.{TranslationExamples}
 use Rattle.translation.specs.Tied.{TranslateTied}
-use Rattle.binary64.specs.Meaning.{RoundingMeans, FloorMeans, FloorMinusZero, TruncateMeans, NearestMeans}
+use Rattle.binary64.specs.Meaning.{RoundingMeans, FloorMeans, TruncateMeans, NearestMeans}
 use Rattle.binary64.specs.Whole.{DroppingLowBits}
-use Rattle.binary64.specs.Ieee.{ProductIsIeee, SumIsIeee, TruncateIsIeee, NearestIsIeee}
+use Rattle.binary64.specs.Ieee.{ProductIsIeee, SumIsIeee, FloorIsIeee, TruncateIsIeee, NearestIsIeee}
 use Rattle.binary64.specs.Corners.{Corners}
 use Rattle.binary64.specs.Edges.{EdgesHold, RoundingEdgesHold}
 use Rattle.plans.specs.BuiltIns.{BuiltIns}
@@ -41,12 +41,12 @@ pub record Claims : Type 0 where
   -- numbers: what rounding and the whole numbers mean, the one fact about dropping low bits, where the results are IEEE 754's, the corners, the tables of edges
   pub rounding-means : RoundingMeans
   pub floor-means : FloorMeans
-  pub floor-minus-zero : FloorMinusZero
   pub truncate-means : TruncateMeans
   pub nearest-means : NearestMeans
   pub dropping-low-bits : DroppingLowBits
   pub product-is-ieee : ProductIsIeee
   pub sum-is-ieee : SumIsIeee
+  pub floor-is-ieee : FloorIsIeee
   pub truncate-is-ieee : TruncateIsIeee
   pub nearest-is-ieee : NearestIsIeee
   pub corners : Corners

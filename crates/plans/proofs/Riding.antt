@@ -6,7 +6,7 @@ use Prim.Native.Nat.{ℕ, _+_, _*_, _/_, _%_, _^_, _<_}
 use native.Mathlib.Omega.{arith}
 use Rattle.bits.specs.Ops.{xorW, andW, shlW, shrW}
 use Rattle.bits.proofs.Xor.{xor-comm, xor-zero}
-use Rattle.bits.proofs.Bound.{and-lt}
+use Rattle.bits.proofs.Bound.{and-lt, xor-lt, shl-lt}
 use Rattle.bits.proofs.Places.{shr-is, shl-exact, and-block, xor-block}
 use Rattle.bits.proofs.Sum.{xor-packed}
 use Rattle.plans.proofs.Fields.{field, low-bits}
@@ -24,6 +24,12 @@ riders w = shrW (shlW w 52) 61
 abbrev pub carrier : ℕ → ℕ
 carrier w = xorW (shlW (shrW w 12) 12) (shrW (shlW w 55) 55)
 
+-- the word with places 9 to 11 cleared
+pub carrier-parts : (w : ℕ) → w < 2 ^ 64 → carrier w ≡ w / 2 ^ 12 * 2 ^ 12 + w % 2 ^ 9
+carrier-parts w h =
+    ap₂ xorW (ap (λ (t : ℕ). shlW t 12) (shr-is w 12) ∙ shl-exact 52 12 (w / 2 ^ 12) (omega arith) (omega arith)) (low-bits w 55 9 (omega arith))
+    ∙ xor-packed (w / 2 ^ 12) 12 (w % 2 ^ 9) (omega arith)
+
 -- a word with places 9 to 11 free
 pub record Free (x : ℕ) : Type 0 where
   pub word : x < 2 ^ 64
@@ -34,7 +40,7 @@ module _ (x : ℕ) (f : Free x) where
   parts : x ≡ x / 2 ^ 12 * 2 ^ 12 + x % 2 ^ 9
   parts = omega (arith, f .free)
 
-  beside-is : (l : ℕ) → l < 8 → beside x l ≡ x / 2 ^ 12 * 2 ^ 12 + (l * 2 ^ 9 + x % 2 ^ 9)
+  pub beside-is : (l : ℕ) → l < 8 → beside x l ≡ x / 2 ^ 12 * 2 ^ 12 + (l * 2 ^ 9 + x % 2 ^ 9)
   beside-is l h =
       let low : x % 2 ^ 9 < 2 ^ 12 = omega arith in
       let mid : l * 2 ^ 9 < 2 ^ 12 = omega arith in
@@ -76,6 +82,9 @@ module _ (x y l r : ℕ) (fx : Free x) (fy : Free y) (hl : l < 8) (hr : r < 8) w
       ap₂ andW (parts x fx) (parts y fy)
       ∙ and-block 12 (x / 2 ^ 12) (y / 2 ^ 12) (x % 2 ^ 9) (y % 2 ^ 9) (omega arith) (omega arith)
 
+  pub rode-lt : rode x y l r < 2 ^ 64
+  rode-lt = and-lt 64 (beside x l) (beside y r) (xor-lt 64 x (shlW l 9) (fx .word) (shl-lt l 9))
+
   pub riders-are : riders (rode x y l r) ≡ andW l r
   riders-are = ap riders rode-is ∙ field (top * 2 ^ 12 + (mid * 2 ^ 9 + low)) 52 9 3 (omega arith) ∙ middle top mid low low-lt mid-lt ∙ mid-is
     where
@@ -86,19 +95,7 @@ module _ (x y l r : ℕ) (fx : Free x) (fy : Free y) (hl : l < 8) (hr : r < 8) w
       mid-is = unfold mid in refl
 
   pub carrier-is : carrier (rode x y l r) ≡ andW x y
-  carrier-is =
-      let t : top < 2 ^ 52 = top-lt in
-      ap carrier rode-is
-      ∙ ap₂ xorW
-      (ap (λ (w : ℕ). shlW w 12) (shr-is (top * 2 ^ 12 + (mid * 2 ^ 9 + low)) 12 ∙ upper top mid low low-lt mid-lt) ∙ shl-exact 52 12 top t (omega arith))
-      (low-bits (top * 2 ^ 12 + (mid * 2 ^ 9 + low)) 55 9 (omega arith) ∙ lower top mid low low-lt)
-      ∙ xor-packed top 12 low (omega (arith, low-lt)) ∙ sym apart
+  carrier-is = carrier-parts (rode x y l r) rode-lt ∙ ap (λ (w : ℕ). w / 2 ^ 12 * 2 ^ 12 + w % 2 ^ 9) rode-is ∙ outer top mid low low-lt mid-lt ∙ sym apart
     where
-      top-lt : top < 2 ^ 52
-      top-lt = unfold top in and-lt 52 (x / 2 ^ 12) (y / 2 ^ 12) (omega (arith, fx .word))
-
-      upper : (t m w : ℕ) → w < 2 ^ 9 → m < 8 → (t * 2 ^ 12 + (m * 2 ^ 9 + w)) / 2 ^ 12 ≡ t
-      upper t m w h k = omega arith
-
-      lower : (t m w : ℕ) → w < 2 ^ 9 → (t * 2 ^ 12 + (m * 2 ^ 9 + w)) % 2 ^ 9 ≡ w
-      lower t m w h = omega arith
+      outer : (t m w : ℕ) → w < 2 ^ 9 → m < 8 → (t * 2 ^ 12 + (m * 2 ^ 9 + w)) / 2 ^ 12 * 2 ^ 12 + (t * 2 ^ 12 + (m * 2 ^ 9 + w)) % 2 ^ 9 ≡ t * 2 ^ 12 + w
+      outer t m w h k = omega arith

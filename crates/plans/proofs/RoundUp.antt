@@ -84,7 +84,7 @@ module _ (z W h y F b : ℕ) (hW : W < 2 ^ 64) (hF : F < 2 ^ 64) where
       up = unfold run in raise y F hy hF
 
 -- ---- from the bit and the others: F is the others, with the opposite of the bit in place 63
-opposite : (b : ℕ) → b < 2 ^ 64 → shlW (notW b) 63 ≡ (1 - b % 2) * 2 ^ 63
+pub opposite : (b : ℕ) → b < 2 ^ 64 → shlW (notW b) 63 ≡ (1 - b % 2) * 2 ^ 63
 unfolding shlW
 opposite b h = top (notW b) ∙ ap (λ (v : ℕ). v * 2 ^ 63) (sym (bit-zero (notW b)) ∙ bit-not b 0 h (omega arith) ∙ ap (λ (v : ℕ). 1 - v) (bit-zero b))
   where

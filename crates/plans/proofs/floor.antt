@@ -1,4 +1,2 @@
--- Floor's plan: the fraction mask (FractionMask), the head as a whole (Head), the theorem (Computes).
-pub mod FractionMask
-pub mod Head
+-- Floor's plan: the theorem (Computes).
 pub mod Computes

@@ -25,7 +25,7 @@ entry plan operands ceiling words ands adds = record { plan = plan; operands = o
 abbrev pub described : Operation → Described
 described Product = entry productPlan (0 ∷ 1 ∷ []) 100 810 65 2
 described Sum = entry sumPlan (0 ∷ 1 ∷ []) 90 300 33 4
-described Floor = entry floorPlan (0 ∷ []) 30 83 11 1
+described Floor = entry floorPlan (0 ∷ []) 12 297 12 0
 described Truncate = entry truncatePlan (0 ∷ []) 5 169 5 0
 described Nearest = entry nearestPlan (0 ∷ []) 14 301 14 0
 

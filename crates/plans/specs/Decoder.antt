@@ -1,4 +1,4 @@
--- The decoder of the exponent that truncation and nearest share: from E one place, 2^(1074−E) for 1023 ≤ E ≤ 1074, and from it the mask W of the bits to drop,
+-- The decoder of the exponent that floor, truncation and nearest share: from E one place, 2^(1074−E) for 1023 ≤ E ≤ 1074, and from it the mask W of the bits to drop,
 -- by four ANDs and no ADD. E is 64c + r, r is 8h + l. Two decoders of 3 bits, for h and for l, give a word with one place for r; tests of c ride in places that
 -- these leave free.
 -- Nothing here has to be believed: what the plans compute is proved.
@@ -91,3 +91,12 @@ twoDecoded =
 unfoldable pub decoder : List Step
 unfolding twoDecoded onePlace masks
 decoder = twoDecoded ++ (And 13 13 5 ∷ (onePlace ++ masks))
+
+-- register 21: whether r = 0; register 14: whether c = 0, from whether bits 0 to 3 of c are all 0, which rides in register 19, and whether c = 16, in register 5
+unfoldable pub zeroBits : List Step
+zeroBits = Shr 21 13 63 ∷ Shl 3 19 53 ∷ Shr 3 3 63 ∷ Shr 14 5 63 ∷ Xor 14 14 3 ∷ []
+
+-- the same with register 21: whether E = 0, which rides in the last AND
+unfoldable pub decoderWithZero : List Step
+unfolding twoDecoded zeroBits ride onePlace masks
+decoderWithZero = twoDecoded ++ (zeroBits ++ (ride 13 5 21 14 ++ (onePlace ++ masks)))

@@ -1,8 +1,8 @@
--- What holds of a built-in plan (Computes); the plans as steps, with runs of steps that plans share (Segments), a run of ones found (RunOfOnes), one added by it
--- (RoundUp), the head of floor's (FractionMask) and that of truncation and nearest (Decoder); what they cost (Cost), what is proved of each (BuiltIns), and the calls that copy them out (Copy).
+-- What holds of a built-in plan (Computes); the plans as steps, with runs of steps that plans share (Segments), the decoder of the exponent that the roundings to a whole
+-- number share (Decoder), a run of ones found (RunOfOnes), one added by it (RoundUp); what they cost (Cost), what is proved of each (BuiltIns), and the calls that copy
+-- them out (Copy).
 pub mod Computes
 pub mod Segments
-pub mod FractionMask
 pub mod Decoder
 pub mod RunOfOnes
 pub mod RoundUp

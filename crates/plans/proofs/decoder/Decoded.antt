@@ -13,7 +13,7 @@ use Rattle.binary64.specs.Number.{expo}
 use Rattle.binary64.proofs.Cases.{lt-or-ge, if-lt, if-not-lt, if-le, if-not-le, if-not-eq}
 use Rattle.plans.proofs.Fields.{field}
 use Rattle.plans.proofs.Tests.{every, each}
-use Rattle.plans.proofs.Riding.{rode, riders, carrier, riders-are, carrier-is}
+use Rattle.plans.proofs.Riding.{beside, rode, riders, carrier, riders-are, carrier-is}
 use Rattle.plans.proofs.decoder.Words.{folded, lit2, lit1, lit0, forHigh, forLow, pairA, pairB, testsA, testsB, topTests, placeOf, testsOf, WordsOf, words-of, TestsOf, tests-of}
 
 -- ---- what the steps compute
@@ -21,15 +21,20 @@ use Rattle.plans.proofs.decoder.Words.{folded, lit2, lit1, lit0, forHig
 unfoldable pub chosenBy : ℕ → ℕ
 chosenBy p = let b : ℕ = shrW (shlW p 63) 63 in xorW (xorW (shlW (spreadW (shrW p 1)) 12) b) (shlW b 1)
 
-unfoldable pub decodedWord : ℕ → ℕ → ℕ
+-- what the steps before the last AND leave, for any last one: the word for r, the places that the tests choose, and the word that the tests of c's low bits ride beside
+unfoldable pub decodedBy : (ℕ → ℕ → ℕ → ℕ) → ℕ → ℕ → ℕ
 unfolding chosenBy
-decodedWord r c =
+decodedBy last r c =
     let w₁ : ℕ = rode (lit2 r) (lit1 r) (pairA c) (pairB c) in
     let q : ℕ = riders w₁ in
     let w₂ : ℕ = rode (carrier w₁) (lit0 r) (testsA c q) (testsB c q) in
     let a : ℕ = carrier w₂ in
     let w₃ : ℕ = rode (forHigh a) (forLow a) (riders w₂) (topTests c) in
-    andW (carrier w₃) (chosenBy (riders w₃))
+    last (carrier w₃) (chosenBy (riders w₃)) (beside (forHigh a) (riders w₂))
+
+unfoldable pub decodedWord : ℕ → ℕ → ℕ
+unfolding decodedBy
+decodedWord r c = decodedBy (λ p t l. andW p t) r c
 
 -- whether E = 1023 and whether E = 1022, from the decoded word
 unfoldable pub isOne : ℕ → ℕ
@@ -53,10 +58,17 @@ unfoldable pub maskU : ℕ → ℕ → ℕ
 maskU c o = shrW (spreadW (xorW (notW (shrW c 4)) o)) 1
 
 -- ---- riders and carriers apart
+-- the places for r from 12 up and the tests of c's low bits, each alone
+abbrev pub highAlone : ℕ → ℕ
+highAlone r = forHigh (andW (andW (lit2 r) (lit1 r)) (lit0 r))
+
+abbrev pub lowTests : ℕ → ℕ
+lowTests c = let q : ℕ = andW (pairA c) (pairB c) in andW (testsA c q) (testsB c q)
+
 module _ (r c : ℕ) (W : WordsOf r) (C : TestsOf c) where
-  decoded-apart : decodedWord r c ≡ andW (placeOf r) (chosenBy (testsOf c))
-  unfolding decodedWord
-  decoded-apart =
+  pub decoded-apart : (last : ℕ → ℕ → ℕ → ℕ) → decodedBy last r c ≡ last (placeOf r) (chosenBy (testsOf c)) (beside (highAlone r) (lowTests c))
+  unfolding decodedBy
+  decoded-apart last =
       let q : ℕ = andW (pairA c) (pairB c) in
       let a : ℕ = andW (lit2 r) (lit1 r) in
       let b : ℕ = andW a (lit0 r) in
@@ -125,7 +137,8 @@ module _ (E : ℕ) (hE : E < 2048) where
   word = decodedWord (E % 64) (E / 64)
 
   word-is : word ≡ andW (placeOf (E % 64)) (chosenBy (testsOf (E / 64)))
-  word-is = decoded-apart (E % 64) (E / 64) (words-of (E % 64) (omega arith)) (tests-of (E / 64) (omega arith))
+  unfolding decodedWord
+  word-is = decoded-apart (E % 64) (E / 64) (words-of (E % 64) (omega arith)) (tests-of (E / 64) (omega arith)) (λ p t l. andW p t)
 
   abbrev Left : ℕ → Type 0
   Left h = ExponentMasks E (onePlaceOf h) (maskW (onePlaceOf h)) (maskU (E / 64) (isOne h)) (isHalf h)
@@ -186,9 +199,12 @@ decodedOf x = decodedWord (lowPart x) (highPart x)
 unfoldable pub belowOf : ℕ → ℕ
 belowOf x = maskU (highPart x) (isOne (decodedOf x))
 
+pub low-part : (x : ℕ) → lowPart x ≡ expo x % 64
+low-part x = field x 6 52 6 (omega arith) ∙ omega arith
+
+pub high-part : (x : ℕ) → highPart x ≡ expo x / 64
+high-part x = field x 1 58 5 (omega arith) ∙ omega arith
+
 pub decoded : (x : ℕ) → x < 2 ^ 64 → ExponentMasks (expo x) (onePlaceOf (decodedOf x)) (maskW (onePlaceOf (decodedOf x))) (belowOf x) (isHalf (decodedOf x))
 unfolding decodedOf belowOf
-decoded x hx =
-    let r : lowPart x ≡ expo x % 64 = field x 6 52 6 (omega arith) ∙ omega arith in
-    let c : highPart x ≡ expo x / 64 = field x 1 58 5 (omega arith) ∙ omega arith in
-    rw (r, c) (exponent-decoded (expo x) (omega arith))
+decoded x hx = rw (low-part x, high-part x) (exponent-decoded (expo x) (omega arith))

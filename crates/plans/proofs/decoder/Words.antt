@@ -90,10 +90,10 @@ abbrev pub testsOf : ℕ → ℕ
 testsOf c = cond (eqb c 15) 1 (cond (eqb c 16) 2 0)
 
 -- ---- computed
-abbrev isFree : ℕ → Bool
+abbrev pub isFree : ℕ → Bool
 isFree x = ltb x (2 ^ 64) && eqb (x / 2 ^ 9 % 8) 0
 
-is-free : (x : ℕ) → T (isFree x) → Free x
+pub is-free : (x : ℕ) → T (isFree x) → Free x
 is-free x h = let b = both (ltb x (2 ^ 64)) (eqb (x / 2 ^ 9 % 8) 0) h in record { word = ltb→lt x (2 ^ 64) (b .0); free = eqb→eq (x / 2 ^ 9 % 8) 0 (b .1) }
 
 abbrev wordsTest : ℕ → Bool

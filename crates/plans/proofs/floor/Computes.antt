@@ -1,46 +1,53 @@
 -- The built-in plan of floor computes floor: for every operand in register 0 and whatever the other registers hold, register 2 is the floor
--- of document 01. The plan's last steps raise a negative operand by the fraction mask and clear the fraction.
--- Rests on Head for the masks, and on binary64's FloorModel for floor on the word itself.
-use mathlib.Core.Path.{_≡_, refl, sym, ap, ap₂, _∙_, subst}
+-- of document 01 and document 02, No. 2.
+-- Rests on the decoder for the masks and the test for E = 0, on RoundUp for the steps after them, and on binary64's FloorModel for floor on the word itself.
+use mathlib.Core.Path.{_≡_, refl, sym, ap, ap₂, _∙_}
 use mathlib.Core.Logic.{inl, inr}
-use Prim.Native.Nat.{ℕ, _+_, _-_, _*_, _/_, _%_, _^_, _≤_, _<_}
-use native.Mathlib.Nat.{add-zero, mul-zero, mul-one, mod-eq-of-lt, div-eq-of-lt, div-one, lt-of-lt-of-le}
+use mathlib.Core.Bool.{cond}
+use Prim.Native.Nat.{ℕ, _+_, _-_, _*_, _/_, _%_, _^_, _≤_, _<_, min}
+use native.Mathlib.Nat.{add-zero, zero-mul, mul-zero, mul-one, one-mul, mod-lt, mod-eq-of-lt, mod-one, div-one, lt-of-lt-of-le, eq-zero-or-pos}
 use native.Mathlib.Omega.{arith}
-use lib.Dec.{T}
+use lib.Dec.{T, eqb}
 use lib.ListN.{getD}
-use lib.Pow.{pow-mono, ones-lt}
-use Rattle.bits.specs.Ops.{xorW, andW, notW, shlW, shrW, spreadW, addW}
+use lib.Pow.{pow-pos, pow-mono, ones-lt, mod-mod-pow}
+use Rattle.bits.specs.Ops.{xorW, andW, notW, shlW, shrW}
 use Rattle.bits.proofs.Digits.{digit}
-use Rattle.bits.proofs.Xor.{xor-zero, xor-zero-l}
-use Rattle.bits.proofs.Choice.{and-spread}
-use Rattle.bits.proofs.Places.{shr-is, add-exact}
+use Rattle.bits.proofs.Xor.{xor-zero, xor-zero-l, xor-comm}
+use Rattle.bits.proofs.Places.{shr-is, and-low, and-block}
 use Rattle.bits.proofs.Sum.{xor-packed}
 use Rattle.plain.specs.Machine.{stepped}
-use Rattle.binary64.specs.Number.{sign, expo}
+use Rattle.binary64.specs.Number.{sign, expo, signed}
 use Rattle.binary64.specs.Floor.{floor}
-use Rattle.binary64.proofs.Cases.{lt-or-ge}
-use Rattle.binary64.proofs.FloorModel.{floor-large, floor-small-plus, floor-small-minus, floor-plus, floor-minus}
+use Rattle.binary64.proofs.Cases.{lt-or-ge, if-eq, if-not-eq}
+use Rattle.binary64.proofs.FloorModel.{floor-large, floor-zero, floor-small-plus, floor-small-minus, floor-plus, floor-minus}
 use Rattle.plans.specs.Computes.{Computes}
 use Rattle.plans.specs.FloorPlan.{floorSteps, floorPlan}
 use Rattle.plans.proofs.Registers.{runSteps, tab}
 use Rattle.plans.proofs.Modelled.{wellFormed, plan-computes}
-use Rattle.plans.proofs.Fields.{low-bits, spread-run-at, clear-low}
-use Rattle.plans.proofs.Lanes.{zeros16}
-use Rattle.plans.proofs.floor.FractionMask.{maskW, maskU}
-use Rattle.plans.proofs.floor.Head.{lanesOf, rounding-head}
+use Rattle.plans.proofs.Fields.{low-bits}
+use Rattle.plans.proofs.Riding.{riders}
+use Rattle.plans.proofs.RunOfOnes.{stageAnd, nextF, nextN, runOf, orOf}
+use Rattle.plans.proofs.RoundUp.{oneOf, raisedWhere, roundedUp, opposite, stays, next-above, next-below}
+use Rattle.plans.proofs.decoder.Words.{pattern5, pattern2, lit2, lit1, lit0, forHigh, forLow, pairA, pairB, noPair, testsA, testsB, topTests}
+use Rattle.plans.proofs.decoder.Decoded.{chosenBy, decodedBy, isOne, onePlaceOf, fold, maskW, maskU, highPart}
+use Rattle.plans.proofs.decoder.Zero.{markedOf, decoded-with-zero}
 
--- ---- the steps after the masks
-unfoldable pub roundDown : ℕ → ℕ → ℕ → ℕ
-roundDown x W U =
-    let a : ℕ = andW (xorW (shlW U 63) W) (spreadW (shrW x 63)) in
-    let M : ℕ = shlW (shrW (spreadW (shrW a 63)) 54) 52 in
-    xorW (andW (addW x (shrW (shlW a 12) 12)) (notW (xorW W U))) M
+-- ---- the steps after the decoder: W and U the masks, e whether E = 0
+-- the bits to drop, and in place 63 whether the operand is negative and no zero
+unfoldable pub droppedOf : ℕ → ℕ → ℕ → ℕ → ℕ
+droppedOf x W U e = andW x (xorW (xorW W U) (shlW (notW e) 63))
+
+unfoldable pub flooredTo : ℕ → ℕ → ℕ → ℕ → ℕ
+flooredTo x W U e =
+    let g : ℕ = droppedOf x W U e in
+    let f : ℕ = shrW (shlW g 1) 1 in
+    roundedUp x W f (shrW U 62) f (shrW g 63)
 
 unfoldable pub floorModel : ℕ → ℕ
-floorModel x = let Z : ℕ = zeros16 (lanesOf x) in roundDown x (maskW x Z) (maskU x Z)
+floorModel x = let w : ℕ = markedOf x in flooredTo x (maskW (onePlaceOf w)) (maskU (highPart x) (isOne w)) (riders w)
 
 modelled : (f : ℕ → ℕ) → getD (runSteps floorSteps (tab f 0 32)) 2 0 ≡ floorModel (f 0)
-unfolding floorSteps stepped floorModel lanesOf zeros16 maskW maskU roundDown
+unfolding floorSteps stepped floorModel flooredTo droppedOf roundedUp raisedWhere oneOf runOf orOf nextN nextF stageAnd pattern5 pattern2 lit2 lit1 lit0 forHigh forLow pairA pairB noPair testsA testsB topTests chosenBy decodedBy markedOf isOne onePlaceOf fold maskW maskU
 modelled f = refl
 
 floor-well-formed : T (wellFormed floorSteps)
@@ -48,103 +55,133 @@ unfolding floorSteps
 floor-well-formed = tt
 
 -- ---- in numbers
--- the sign's bit, as the steps read it
-sign-bit : (x : ℕ) → x < 2 ^ 64 → shrW x 63 % 2 ≡ sign x
-sign-bit x h = ap (λ (y : ℕ). y % 2) (shr-is x 63) ∙ mod-eq-of-lt (omega arith)
+bits : (s e : ℕ) → s < 2 → e < 2 → andW s (1 - e) ≡ s * (1 - e)
+unfolding andW
+bits s e hs h =
+    digit (λ s. andW s (1 - e) ≡ s * (1 - e)) (digit (λ e. andW 0 (1 - e) ≡ 0 * (1 - e)) refl refl e h) (digit (λ e. andW 1 (1 - e) ≡ 1 * (1 - e)) refl refl e h) s hs
 
--- from 1 on: W = 2^k - 1 and U = 0
-round-down-above : (x k : ℕ) → x < 2 ^ 64 → k ≤ 52 → x + (2 ^ k - 1) * sign x < 2 ^ 64
-    → roundDown x (2 ^ k - 1) 0 ≡ (x + (2 ^ k - 1) * sign x) / 2 ^ k * 2 ^ k
-unfolding roundDown
-round-down-above x k h hk fits =
-    let W : ℕ = 2 ^ k - 1 in
-    let wl : 2 ^ k - 1 < 2 ^ 52 = lt-of-lt-of-le (ones-lt k) (pow-mono hk) in
-    let s : ℕ = sign x in
-    let al : W * s < 2 ^ 52 = times W s wl (omega arith) in
-    let a : andW (xorW (shlW 0 63) W) (spreadW (shrW x 63)) ≡ W * s =
-    ap (λ (y : ℕ). andW y (spreadW (shrW x 63))) (ap (λ (y : ℕ). xorW y W) shl-none ∙ xor-zero-l W) ∙ and-spread W (shrW x 63) (omega arith) ∙ ap (λ (y : ℕ). W * y) (sign-bit x h) in
-    let M : shlW (shrW (spreadW (shrW (W * s) 63)) 54) 52 ≡ 0 =
-    spread-run-at (shrW (W * s) 63) 54 10 52 refl (omega arith) ∙ ap (λ (y : ℕ). y % 2 * (2 ^ 10 - 1) * 2 ^ 52) (shr-is (W * s) 63 ∙ div-eq-of-lt (omega arith)) in
-    let Y : addW x (shrW (shlW (W * s) 12) 12) ≡ x + W * s =
-    ap (addW x) (low-bits (W * s) 12 52 refl ∙ mod-eq-of-lt al) ∙ add-exact x (W * s) fits in
-    ap (λ (v : ℕ). xorW (andW (addW x (shrW (shlW v 12) 12)) (notW (xorW W 0))) (shlW (shrW (spreadW (shrW v 63)) 54) 52)) a
-    ∙ ap₂ (λ (u v : ℕ). xorW (andW u (notW (xorW W 0))) v) Y M
-    ∙ xor-zero (andW (x + W * s) (notW (xorW W 0))) ∙ ap (λ (y : ℕ). andW (x + W * s) (notW y)) (xor-zero W)
-    ∙ clear-low (x + W * s) k fits (omega arith)
-  where
-    times : (W s : ℕ) → W < 2 ^ 52 → s < 2 → W * s < 2 ^ 52
-    times W s h l = digit (λ b. W * b < 2 ^ 52) (omega arith) (omega arith) s l
+-- k bits to drop
+module _ (x k e W U : ℕ) (hx : x < 2 ^ 64) (hk : k ≤ 63) (he : e < 2) (m : xorW W U ≡ 2 ^ k - 1) where
+  -- whether the operand is negative and no zero
+  abbrev b : ℕ
+  b = sign x * (1 - e)
 
-    shl-none : shlW 0 63 ≡ 0
-    shl-none = unfold shlW in refl
+  b-lt : b < 2
+  b-lt = digit (λ e. sign x * (1 - e) < 2) (omega arith) (omega arith) e he
 
--- below 1: W = 0 and U = 2^63 - 1
-round-down-below : (x : ℕ) → x < 2 ^ 64 → roundDown x 0 (2 ^ 63 - 1) ≡ sign x * 0xBFF0000000000000
-unfolding roundDown
-round-down-below x h =
-    let s : ℕ = sign x in
-    let a : andW (xorW (shlW (2 ^ 63 - 1) 63) 0) (spreadW (shrW x 63)) ≡ 2 ^ 63 * s =
-    ap (λ (y : ℕ). andW y (spreadW (shrW x 63))) (ap (λ (y : ℕ). xorW y 0) shl-ones ∙ xor-zero (2 ^ 63)) ∙ and-spread (2 ^ 63) (shrW x 63) (omega arith) ∙ ap (λ (y : ℕ). 2 ^ 63 * y) (sign-bit x h) in
-    let top : 2 ^ 63 * s / 2 ^ 63 % 2 ≡ s = omega arith in
-    let M : shlW (shrW (spreadW (shrW (2 ^ 63 * s) 63)) 54) 52 ≡ s * (1023 * 2 ^ 52) =
-    spread-run-at (shrW (2 ^ 63 * s) 63) 54 10 52 refl (omega arith)
-    ∙ ap (λ (y : ℕ). y * 1023 * 2 ^ 52) (ap (λ (y : ℕ). y % 2) (shr-is (2 ^ 63 * s) 63) ∙ top) ∙ omega arith in
-    let low : 2 ^ 63 * s % 2 ^ 52 ≡ 0 = omega arith in
-    let Y : addW x (shrW (shlW (2 ^ 63 * s) 12) 12) ≡ x =
-    ap (addW x) (low-bits (2 ^ 63 * s) 12 52 refl ∙ low) ∙ add-exact x 0 (omega arith) ∙ omega arith in
-    ap (λ (v : ℕ). xorW (andW (addW x (shrW (shlW v 12) 12)) (notW (xorW 0 (2 ^ 63 - 1)))) (shlW (shrW (spreadW (shrW v 63)) 54) 52)) a
-    ∙ ap₂ (λ (u v : ℕ). xorW (andW u (notW (xorW 0 (2 ^ 63 - 1)))) v) Y M
-    ∙ ap (λ (y : ℕ). xorW (andW x (notW y)) (s * (1023 * 2 ^ 52))) (xor-zero-l (2 ^ 63 - 1))
-    ∙ ap (λ (y : ℕ). xorW y (s * (1023 * 2 ^ 52))) (clear-low x 63 h (omega arith))
-    ∙ xor-packed s 63 (s * (1023 * 2 ^ 52)) (omega arith) ∙ omega arith
-  where
-    shl-ones : shlW (2 ^ 63 - 1) 63 ≡ 2 ^ 63
-    shl-ones = unfold shlW in refl
+  dropped-are : droppedOf x W U e ≡ b * 2 ^ 63 + x % 2 ^ k
+  unfolding droppedOf
+  dropped-are =
+      let lo : 2 ^ k - 1 < 2 ^ 63 = lt-of-lt-of-le (ones-lt k) (pow-mono {i = k} {j = 63} hk) in
+      let word : x ≡ sign x * 2 ^ 63 + x % 2 ^ 63 = omega arith in
+      let odd : e % 2 ≡ e = mod-eq-of-lt he in
+      ap (andW x)
+      (ap₂ xorW m (opposite e (omega arith) ∙ ap (λ (v : ℕ). (1 - v) * 2 ^ 63) odd) ∙ xor-comm (2 ^ k - 1) ((1 - e) * 2 ^ 63) ∙ xor-packed (1 - e) 63 (2 ^ k - 1) lo)
+      ∙ ap (λ (v : ℕ). andW v ((1 - e) * 2 ^ 63 + (2 ^ k - 1))) word
+      ∙ and-block 63 (sign x) (1 - e) (x % 2 ^ 63) (2 ^ k - 1) (omega arith) lo
+      ∙ ap₂ (λ (s r : ℕ). s * 2 ^ 63 + r) (bits (sign x) e (omega arith) he) (and-low (x % 2 ^ 63) k ∙ short)
+    where
+      short : x % 2 ^ 63 % 2 ^ k ≡ x % 2 ^ k
+      short = ap (λ (n : ℕ). x % 2 ^ n % 2 ^ k) (there k hk) ∙ mod-mod-pow x (63 - k) k
+        where
+          there : (k : ℕ) → k ≤ 63 → 63 ≡ 63 - k + k
+          there k h = omega arith
+
+  floored : flooredTo x W U e ≡ roundedUp x W (x % 2 ^ k) (shrW U 62) (x % 2 ^ k) b
+  unfolding flooredTo
+  floored =
+      let s : x % 2 ^ k < 2 ^ 63 = lt-of-lt-of-le (mod-lt x (pow-pos k)) (pow-mono {i = k} {j = 63} hk) in
+      ap (λ (g : ℕ). roundedUp x W (shrW (shlW g 1) 1) (shrW U 62) (shrW (shlW g 1) 1) (shrW g 63)) dropped-are
+      ∙ ap₂ (λ (f n : ℕ). roundedUp x W f (shrW U 62) f n)
+      (low-bits (b * 2 ^ 63 + x % 2 ^ k) 1 63 refl ∙ low b (x % 2 ^ k) s) (shr-is (b * 2 ^ 63 + x % 2 ^ k) 63 ∙ high b (x % 2 ^ k) s)
+    where
+      low : (b r : ℕ) → r < 2 ^ 63 → (b * 2 ^ 63 + r) % 2 ^ 63 ≡ r
+      low b r h = omega arith
+
+      high : (b r : ℕ) → r < 2 ^ 63 → (b * 2 ^ 63 + r) / 2 ^ 63 ≡ b
+      high b r h = omega arith
+
+-- whether E < 1023, from U
+below-some : shrW (2 ^ 63 - 1) 62 ≡ 1
+below-some = unfold shrW in refl
+
+below-none : shrW 0 62 ≡ 0
+below-none = unfold shrW in refl
 
 -- ---- the ranges of E
 module _ (x : ℕ) (hx : x < 2 ^ 64) where
-  -- from 1 on, by the number k of fraction bits and the sign
-  floor-above : 1023 ≤ expo x → roundDown x (2 ^ (1075 - expo x) - 1) 0 ≡ floor x
-  floor-above lo =
-      elim (lt-or-ge (expo x) 1075) [
-        | inl l ↦
-            let k : ℕ = 1075 - expo x in
-            let p : 2 ^ (1075 - expo x) ≤ 2 ^ 52 = pow-mono {i = 1075 - expo x} {j = 52} (omega arith) in
-            elim (lt-or-ge (sign x) 1) [
+  -- below 1
+  below : (e : ℕ) → e < 2 → flooredTo x 0 (2 ^ 63 - 1) e ≡ signed (sign x) (sign x * (1 - e) % 2 * min (x % 2 ^ 63) 1 * (1023 * 2 ^ 52))
+  below e h =
+      let b : ℕ = sign x * (1 - e) in
+      floored x 63 e 0 (2 ^ 63 - 1) hx (omega arith) h (xor-zero-l (2 ^ 63 - 1))
+      ∙ ap (λ (n : ℕ). roundedUp x 0 (x % 2 ^ 63) n (x % 2 ^ 63) b) below-some
+      ∙ next-below x (x % 2 ^ 63) b hx (omega arith) (omega (arith, b-lt x 63 e 0 (2 ^ 63 - 1) hx (omega arith) h (xor-zero-l (2 ^ 63 - 1))))
+
+  floor-below : expo x < 1023 → flooredTo x 0 (2 ^ 63 - 1) (cond (eqb (expo x) 0) 1 0) ≡ floor x
+  floor-below l =
+      elim (eq-zero-or-pos (expo x)) [
+        | inl z ↦
+            ap (flooredTo x 0 (2 ^ 63 - 1)) (if-eq (expo x) 0 1 0 z) ∙ below 1 (omega arith)
+            ∙ ap (λ (b : ℕ). signed (sign x) (b % 2 * min (x % 2 ^ 63) 1 * (1023 * 2 ^ 52))) (mul-zero (sign x)) ∙ omega arith ∙ sym (floor-zero x z)
+        | inr o ↦
+            ap (flooredTo x 0 (2 ^ 63 - 1)) (if-not-eq (expo x) 0 1 0 (λ z. omega arith)) ∙ below 0 (omega arith)
+            ∙ ap (λ (b : ℕ). signed (sign x) (b % 2 * min (x % 2 ^ 63) 1 * (1023 * 2 ^ 52))) (mul-one (sign x))
+            ∙ elim (lt-or-ge (sign x) 1) [
               | inl z ↦
                   let s : sign x ≡ 0 = omega arith in
-                  let e : x + (2 ^ k - 1) * sign x ≡ x = ap (λ (y : ℕ). x + (2 ^ k - 1) * y) s ∙ ap (λ (y : ℕ). x + y) (mul-zero (2 ^ k - 1)) ∙ add-zero x in
-                  round-down-above x k hx (omega arith) (subst (λ (y : ℕ). y < 2 ^ 64) (sym e) hx) ∙ ap (λ (y : ℕ). y / 2 ^ k * 2 ^ k) e ∙ sym (floor-plus x lo l s)
-              | inr z ↦
+                  ap (λ (s : ℕ). signed s (s % 2 * min (x % 2 ^ 63) 1 * (1023 * 2 ^ 52))) s ∙ omega arith ∙ sym (floor-small-plus x l s)
+              | inr g ↦
                   let s : sign x ≡ 1 = omega arith in
-                  let e : x + (2 ^ k - 1) * sign x ≡ x + (2 ^ k - 1) = ap (λ (y : ℕ). x + (2 ^ k - 1) * y) s ∙ ap (λ (y : ℕ). x + y) (mul-one (2 ^ k - 1)) in
-                  round-down-above x k hx (omega arith) (subst (λ (y : ℕ). y < 2 ^ 64) (sym e) (room x (2 ^ k) hx l p)) ∙ ap (λ (y : ℕ). y / 2 ^ k * 2 ^ k) e
-                  ∙ sym (floor-minus x lo l (λ q. omega arith))
+                  let m : min (x % 2 ^ 63) 1 ≡ 1 = omega arith in
+                  ap₂ (λ (s m : ℕ). signed s (s % 2 * m * (1023 * 2 ^ 52))) s m ∙ sym (floor-small-minus x o l (λ z. omega arith))
             ]
-        | inr g ↦
-            let e : 1075 - expo x ≡ 0 = omega arith in
-            ap (λ (k : ℕ). roundDown x (2 ^ k - 1) 0) e
-            ∙ round-down-above x 0 hx (omega arith) (omega arith) ∙ ap (λ (y : ℕ). y * 1) (div-one (x + 0 * sign x)) ∙ omega arith ∙ sym (floor-large x g)
       ]
-    where
-      room : (x p : ℕ) → x < 2 ^ 64 → expo x < 1075 → p ≤ 2 ^ 52 → x + (p - 1) < 2 ^ 64
-      room x p h l q = omega arith
 
-  floor-below : expo x < 1023 → roundDown x 0 (2 ^ 63 - 1) ≡ floor x
-  floor-below l =
-      round-down-below x hx
+  floor-between : 1023 ≤ expo x → expo x < 1075 → flooredTo x (2 ^ (1075 - expo x) - 1) 0 0 ≡ floor x
+  floor-between lo hi =
+      let k : ℕ = 1075 - expo x in
+      let W : ℕ = 2 ^ k - 1 in
+      let hk : k ≤ 52 = omega arith in
+      let small : x % 2 ^ k < 2 ^ 63 = lt-of-lt-of-le (mod-lt x (pow-pos k)) (pow-mono {i = k} {j = 63} (omega arith)) in
+      floored x k 0 W 0 hx (omega arith) (omega arith) (xor-zero W)
+      ∙ ap₂ (λ (n b : ℕ). roundedUp x W (x % 2 ^ k) n (x % 2 ^ k) b) below-none (mul-one (sign x))
+      ∙ next-above x k (x % 2 ^ k) (sign x) hx hi hk small (omega arith)
       ∙ elim (lt-or-ge (sign x) 1) [
-        | inl z ↦ let s : sign x ≡ 0 = omega arith in ap (λ (y : ℕ). y * 0xBFF0000000000000) s ∙ sym (floor-small-plus x l s)
-        | inr z ↦ let s : sign x ≡ 1 = omega arith in ap (λ (y : ℕ). y * 0xBFF0000000000000) s ∙ sym (floor-small-minus x l (λ q. omega arith))
+        | inl z ↦
+            let s : sign x ≡ 0 = omega arith in
+            ap (λ (s : ℕ). (x / 2 ^ k + s % 2 * min (x % 2 ^ k) 1) * 2 ^ k) s
+            ∙ ap (λ (v : ℕ). (x / 2 ^ k + v) * 2 ^ k) (zero-mul (min (x % 2 ^ k) 1)) ∙ ap (λ (v : ℕ). v * 2 ^ k) (add-zero (x / 2 ^ k)) ∙ sym (floor-plus x lo hi s)
+        | inr g ↦
+            let s : sign x ≡ 1 = omega arith in
+            ap (λ (s : ℕ). (x / 2 ^ k + s % 2 * min (x % 2 ^ k) 1) * 2 ^ k) s
+            ∙ ap (λ (v : ℕ). (x / 2 ^ k + v) * 2 ^ k) (one-mul (min (x % 2 ^ k) 1)) ∙ sym (floor-minus x lo hi (λ z. omega arith))
       ]
+
+  floor-above : 1075 ≤ expo x → flooredTo x 0 0 0 ≡ floor x
+  floor-above g =
+      let none : x % 2 ^ 0 ≡ 0 = mod-one x in
+      floored x 0 0 0 0 hx (omega arith) (omega arith) (xor-zero 0)
+      ∙ stays x 0 0 (shrW 0 62) (x % 2 ^ 0) (sign x * 1) (omega arith) (omega arith) (omega arith)
+      (ap (λ (r : ℕ). sign x * 1 % 2 * min r 1) none ∙ mul-zero (sign x * 1 % 2))
+      ∙ mul-one (x / 1) ∙ div-one x ∙ sym (floor-large x g)
+
+  -- by what the decoder leaves
+  left : (W U e : ℕ) → maskW (onePlaceOf (markedOf x)) ≡ W → maskU (highPart x) (isOne (markedOf x)) ≡ U → riders (markedOf x) ≡ e → floorModel x ≡ flooredTo x W U e
+  unfolding floorModel
+  left W U e we ue ee = ap₂ (λ (W U : ℕ). flooredTo x W U (riders (markedOf x))) we ue ∙ ap (flooredTo x W U) ee
 
   floor-model : floorModel x ≡ floor x
-  unfolding floorModel
   floor-model =
-      let m = rounding-head x 0 (lanesOf x) hx (omega arith) (omega arith) in
+      let d = decoded-with-zero x hx in
       elim (lt-or-ge (expo x) 1023) [
-        | inl l ↦ ap₂ (roundDown x) (m .below l .0) (m .below l .1) ∙ floor-below l
-        | inr g ↦ ap₂ (roundDown x) (m .above g .0) (m .above g .1) ∙ floor-above g
+        | inl l ↦ let m = d .masks .below l in left 0 (2 ^ 63 - 1) (cond (eqb (expo x) 0) 1 0) (m .1) (m .2) (d .zero) ∙ floor-below l
+        | inr g ↦
+            let z : riders (markedOf x) ≡ 0 = d .zero ∙ if-not-eq (expo x) 0 1 0 (λ e. omega arith) in
+            elim (lt-or-ge (expo x) 1075) [
+              | inl l ↦ let m = d .masks .between g l in left (2 ^ (1075 - expo x) - 1) 0 0 (m .1) (m .2) z ∙ floor-between g l
+              | inr g₁ ↦ let m = d .masks .large g₁ in left 0 0 0 (m .1) (m .2) z ∙ floor-above g₁
+            ]
       ]
 
 -- what holds of the plan

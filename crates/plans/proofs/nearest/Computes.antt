@@ -20,7 +20,7 @@ use Rattle.plans.proofs.Modelled.{wellFormed, plan-computes}
 use Rattle.plans.proofs.RunOfOnes.{stageAnd, nextF, nextN, runOf, orOf}
 use Rattle.plans.proofs.RoundUp.{oneOf, raisedWhere, roundedUp}
 use Rattle.plans.proofs.decoder.Words.{pattern5, pattern2, lit2, lit1, lit0, forHigh, forLow, pairA, pairB, noPair, testsA, testsB, topTests}
-use Rattle.plans.proofs.decoder.Decoded.{chosenBy, decodedWord, isOne, isHalf, onePlaceOf, fold, maskW, maskU, decodedOf, belowOf, decoded}
+use Rattle.plans.proofs.decoder.Decoded.{chosenBy, decodedBy, decodedWord, isOne, isHalf, onePlaceOf, fold, maskW, maskU, decodedOf, belowOf, decoded}
 use Rattle.plans.proofs.nearest.Parts.{firstOf, othersOf, roundedTo}
 use Rattle.plans.proofs.nearest.Outside.{none-first, half}
 use Rattle.plans.proofs.nearest.Between.{between}
@@ -29,7 +29,7 @@ unfoldable pub nearestModel : ℕ → ℕ
 nearestModel x = let p : ℕ = onePlaceOf (decodedOf x) in roundedTo x p (maskW p) (belowOf x) (isHalf (decodedOf x))
 
 modelled : (f : ℕ → ℕ) → getD (runSteps nearestSteps (tab f 0 32)) 2 0 ≡ nearestModel (f 0)
-unfolding nearestSteps stepped nearestModel roundedTo othersOf firstOf roundedUp raisedWhere oneOf runOf orOf nextN nextF stageAnd pattern5 pattern2 lit2 lit1 lit0 forHigh forLow pairA pairB noPair testsA testsB topTests chosenBy decodedWord isOne isHalf onePlaceOf fold maskW maskU decodedOf belowOf
+unfolding nearestSteps stepped nearestModel roundedTo othersOf firstOf roundedUp raisedWhere oneOf runOf orOf nextN nextF stageAnd pattern5 pattern2 lit2 lit1 lit0 forHigh forLow pairA pairB noPair testsA testsB topTests chosenBy decodedBy decodedWord isOne isHalf onePlaceOf fold maskW maskU decodedOf belowOf
 modelled f = refl
 
 nearest-well-formed : T (wellFormed nearestSteps)

@@ -21,7 +21,7 @@ use Rattle.plans.proofs.Registers.{runSteps, tab}
 use Rattle.plans.proofs.Modelled.{wellFormed, plan-computes}
 use Rattle.plans.proofs.Fields.{clear-low}
 use Rattle.plans.proofs.decoder.Words.{pattern5, pattern2, lit2, lit1, lit0, forHigh, forLow, pairA, pairB, noPair, testsA, testsB, topTests}
-use Rattle.plans.proofs.decoder.Decoded.{chosenBy, decodedWord, isOne, onePlaceOf, fold, maskW, maskU, decodedOf, belowOf, decoded}
+use Rattle.plans.proofs.decoder.Decoded.{chosenBy, decodedBy, decodedWord, isOne, onePlaceOf, fold, maskW, maskU, decodedOf, belowOf, decoded}
 
 -- the operand without the bits of two masks
 abbrev dropped : ℕ → ℕ → ℕ → ℕ
@@ -31,7 +31,7 @@ unfoldable pub truncateModel : ℕ → ℕ
 truncateModel x = dropped x (maskW (onePlaceOf (decodedOf x))) (belowOf x)
 
 modelled : (f : ℕ → ℕ) → getD (runSteps truncateSteps (tab f 0 32)) 2 0 ≡ truncateModel (f 0)
-unfolding truncateSteps stepped truncateModel pattern5 pattern2 lit2 lit1 lit0 forHigh forLow pairA pairB noPair testsA testsB topTests chosenBy decodedWord isOne onePlaceOf fold maskW maskU decodedOf belowOf
+unfolding truncateSteps stepped truncateModel pattern5 pattern2 lit2 lit1 lit0 forHigh forLow pairA pairB noPair testsA testsB topTests chosenBy decodedBy decodedWord isOne onePlaceOf fold maskW maskU decodedOf belowOf
 modelled f = refl
 
 truncate-well-formed : T (wellFormed truncateSteps)
