@@ -247,6 +247,7 @@ uint64_t base_sum(uint64_t a, uint64_t b) {
     return packed(a & SIGN, exponent, kept, rest > 1024 || (rest == 1024 && kept & 1));
 }
 
+/* Below 1 what is negative and no zero (E > 0) becomes -1. */
 uint64_t base_floor(uint64_t a) {
     unsigned exponent = exponent_of(a);
     if (exponent >= 1075) return a;

@@ -2,7 +2,7 @@
 -- The one fact that floor (FloorModel), truncation and nearest (WholeModel) go by. A carry out of F goes into E and leaves F = 0. Rests on Round.
 use mathlib.Core.Path.{_≡_, refl, sym, ap, ap₂, _∙_}
 use mathlib.Core.Logic.{inl, inr}
-use Prim.Native.Nat.{ℕ, zero, suc, _+_, _-_, _*_, _/_, _%_, _^_, _≤_, _<_}
+use Prim.Native.Nat.{ℕ, zero, suc, _+_, _-_, _*_, _/_, _%_, _^_, _≤_, _<_, min}
 use native.Mathlib.Nat.{le-trans, le-of-eq, lt-of-lt-of-le, mod-lt, mul-assoc, mul-le-mul-right, mul-lt-mul-of-pos-right, add-mul, add-zero, suc-add, div-add-mod', eq-or-lt-of-le, le-div-iff-mul-le, div-lt-iff-lt-mul, mul-add-div-right, mul-add-mod-self-right}
 use native.Mathlib.Omega.{arith}
 use lib.Arith.{digits-div, digits-mod}
@@ -146,6 +146,12 @@ dropping-low-bits a k u lo hi hk s = go (expo a) refl lo hi s
     go : (E : ℕ) → expo a ≡ E → 1 ≤ E → E ≤ 2046 → E + k ≡ suc u → Dropped a k u
     go zero q l h s = absurd (omega arith)
     go (suc e) q l h s = dropped a e k u hk (omega arith) q (omega arith)
+
+-- what a decision adds: r, where one bit of m is set
+pub bit-times : (r m : ℕ) → r < 2 → r * min m 1 ≤ 1
+bit-times zero m h = omega arith
+bit-times (suc zero) m h = omega arith
+bit-times (suc (suc r)) m h = absurd (omega arith)
 
 -- ---- the fraction: 1023 ≤ E ≤ 1074
 module _ (a : ℕ) (lo : 1023 ≤ expo a) (hi : expo a < 1075) where

@@ -1,24 +1,23 @@
 -- Floor is the greatest whole number not above the operand: the theorem of specs/Meaning on it. Floor goes by a rule that sees the sign, and what holds of every rule
--- is proved in WholeMeaning. Rests on that, and on FloorModel and WholeModel for the ranges of E.
-use mathlib.Core.Path.{_≡_, refl, sym, ap, ap₂, _∙_, subst}
+-- is proved in WholeMeaning. Rests on that, on FloorModel for the ranges of E, and on WholeModel for the words of 0 and 1.
+use mathlib.Core.Path.{_≡_, sym, ap, ap₂, _∙_, subst}
 use mathlib.Core.Logic.{inl, inr}
 use mathlib.Core.Bool.{Bool, true, false, cond}
 use Prim.Native.Nat.{ℕ, zero, suc, _+_, _-_, _*_, _/_, _%_, _^_, _≤_, _<_, min}
-use native.Mathlib.Nat.{add-zero, zero-add, add-mul, div-add-mod', div-eq-of-lt, div-one, mod-lt, mod-eq-of-lt, mod-one, eq-zero-or-pos, lt-of-lt-of-le, le-of-eq, mul-pos, one-mul}
+use native.Mathlib.Nat.{add-zero, zero-add, add-mul, div-add-mod', div-eq-of-lt, div-one, mod-lt, mod-eq-of-lt, mod-one, eq-zero-or-pos, mul-pos, one-mul}
 use native.Mathlib.Omega.{arith}
 use lib.Pow.{pow-pos}
 use lib.Ieee.Nearest.{div-same}
 use Rattle.binary64.specs.Number.{sign, expo, frac, magnitudeOf, magnitude, signed}
-use Rattle.binary64.specs.Rounding.{magBits}
 use Rattle.binary64.specs.Whole.{wholeNumber}
 use Rattle.binary64.specs.Floor.{wholeOf, floor}
 use Rattle.binary64.specs.Ieee.{towardNegative}
 use Rattle.binary64.specs.Meaning.{GreatestWhole, FloorMeans}
-use Rattle.binary64.proofs.Cases.{lt-or-ge, zero-one, if-le, if-not-le, if-eq, if-not-eq}
+use Rattle.binary64.proofs.Cases.{lt-or-ge, zero-one, if-eq, if-not-eq}
 use Rattle.binary64.proofs.Words.{sign-cases, magnitude-is, magnitude-below}
 use Rattle.binary64.proofs.FloorModel.{some-units, floor-zero, floor-large, floor-small-plus, floor-small-minus, floor-between}
 use Rattle.binary64.proofs.WholeModel.{whole-zero, one-bits}
-use Rattle.binary64.proofs.WholeMeaning.{floor-bounds, WholeRule, roundedBy, rounded-reads, rounded-sign}
+use Rattle.binary64.proofs.WholeMeaning.{floor-bounds, WholeRule, roundedBy, rounded-large, rounded-below, rounded-reads, rounded-sign}
 
 -- ---- floor's rule
 -- a quotient rounded up sees only the fraction's value
@@ -46,11 +45,11 @@ below-one true M P h = ap₂ (λ (q r : ℕ). q + min r 1) (div-eq-of-lt h) (mod
 below-one false M P h = div-eq-of-lt h
 
 module _ (a : ℕ) where
-  -- in every range of E
+  -- floor is what its rule gives, in every range of E
   pub floor-rounded : (s : Bool) → sign a ≡ cond s 1 0 → floor a ≡ roundedBy (towardNegative s) a
   floor-rounded s h =
       elim (lt-or-ge (expo a) 1075) [
-        | inr g ↦ floor-large a g ∙ sym (if-le 1075 (expo a) a (wholeNumber (sign a) (towardNegative s (magnitude a) (2 ^ 1074))) g)
+        | inr g ↦ floor-large a g ∙ sym (rounded-large (towardNegative s) a g)
         | inl l ↦
             elim (lt-or-ge (expo a) 1023) [
               | inr g ↦ floor-between a g l ∙ ap (wholeNumber (sign a)) (by s h)
@@ -58,7 +57,7 @@ module _ (a : ℕ) where
                   small s h k
                   ∙ ap (wholeNumber (sign a)) (sym (below-one s (magnitude a) (2 ^ 1074) (magnitude-below a 1023 k)))
             ]
-            ∙ sym (if-not-le 1075 (expo a) a (wholeNumber (sign a) (towardNegative s (magnitude a) (2 ^ 1074))) l)
+            ∙ sym (rounded-below (towardNegative s) a l)
       ]
     where
       by : (s : Bool) → sign a ≡ cond s 1 0 → wholeOf 1074 (sign a) (magnitude a) ≡ towardNegative s (magnitude a) (2 ^ 1074)
@@ -96,13 +95,12 @@ floor-means a ha =
     let P = 2 ^ 1074 in
     elim (sign-cases a ha) [
       | inl s ↦
-          let b = floor-bounds m P (pow-pos 1074) in
           subst (GreatestWhole a) (sym (floor-rounded a false s))
           (record {
             whole = m / P;
             reads = rounded-reads (towardNegative false) (toward-negative false) a;
             sign-kept = rounded-sign (towardNegative false) (toward-negative false) a;
-            plus = λ t. (b .0, lt-of-lt-of-le (b .1) (le-of-eq (next (m / P) P)));
+            plus = λ t. floor-bounds m P (pow-pos 1074);
             minus = λ t. absurd (zero-one s t);
           })
       | inr s ↦
@@ -115,6 +113,3 @@ floor-means a ha =
             minus = λ t. ceiling-bounds m P (pow-pos 1074);
           })
     ]
-  where
-    next : (w P : ℕ) → suc w * P ≡ w * P + P
-    next w P = omega arith

@@ -1,6 +1,7 @@
--- Floor on the word itself: between E = 1023 and 1074 it clears the k = 1075 - E fraction bits of the word, and adds 2^k to a negative one that had a fraction.
+-- Floor on the word itself, by the ranges of E. Between E = 1023 and 1074 it clears the k = 1075 - E fraction bits of the word, and adds 2^k to a negative one that
+-- had a fraction.
 -- Rests on Dropping.
-use mathlib.Core.Path.{_≡_, sym, ap, _∙_}
+use mathlib.Core.Path.{_≡_, refl, sym, ap, _∙_}
 use mathlib.Core.Logic.{inl, inr}
 use mathlib.Core.Bool.{cond}
 use Prim.Native.Nat.{ℕ, zero, suc, _+_, _-_, _*_, _/_, _%_, _^_, _≤_, _<_, min}
@@ -12,7 +13,7 @@ use Rattle.binary64.specs.Number.{sign, expo, magnitude, signed}
 use Rattle.binary64.specs.Whole.{wholeNumber}
 use Rattle.binary64.specs.Floor.{wholeOf, floor}
 use Rattle.binary64.proofs.Cases.{if-lt, if-not-lt, if-le, if-not-le, if-eq, if-not-eq}
-use Rattle.binary64.proofs.Dropping.{fraction-dropped, whole-part}
+use Rattle.binary64.proofs.Dropping.{bit-times, fraction-dropped}
 
 -- a number of units is zero where their count is
 pub some-units : (v p : ℕ) → 0 < p → min (v * p) 1 ≡ min v 1
@@ -48,15 +49,18 @@ module _ (a : ℕ) where
     unfolding floor
     floor-between = if-not-eq (expo a) 0 _ _ (λ e. omega arith) ∙ if-not-le 1075 (expo a) _ _ hi ∙ if-not-lt (expo a) 1023 _ _ lo
 
-    pub floor-plus : sign a ≡ 0 → floor a ≡ a / 2 ^ (1075 - expo a) * 2 ^ (1075 - expo a)
-    floor-plus s = floor-between ∙ ap (wholeNumber (sign a)) (if-eq (sign a) 0 _ _ s) ∙ sym (whole-part a lo hi)
-
-    -- the next multiple, unless the fraction is 0
-    pub floor-minus : (sign a ≡ 0 → ⊥) → floor a ≡ (a / 2 ^ (1075 - expo a) + min (a % 2 ^ (1075 - expo a)) 1) * 2 ^ (1075 - expo a)
-    floor-minus s =
+    -- 2^k is added to a negative number that has a fraction
+    pub floor-word : a < 2 ^ 64 → floor a ≡ (a / 2 ^ (1075 - expo a) + sign a * min (a % 2 ^ (1075 - expo a)) 1) * 2 ^ (1075 - expo a)
+    floor-word ha =
         let k = 1075 - expo a in
         let raised : min (magnitude a % 2 ^ 1074) 1 ≡ min (a % 2 ^ k) 1 =
         ap (λ (r : ℕ). min r 1) (fraction-dropped a lo hi .rest) ∙ some-units (a % 2 ^ k) (2 ^ (expo a - 1)) (pow-pos (expo a - 1)) in
-        floor-between
-        ∙ ap (wholeNumber (sign a)) (if-not-eq (sign a) 0 _ _ s ∙ ap (λ (c : ℕ). magnitude a / 2 ^ 1074 + c) raised)
-        ∙ sym (fraction-dropped a lo hi .word (min (a % 2 ^ k) 1) (omega arith))
+        let up : wholeOf 1074 (sign a) (magnitude a) ≡ magnitude a / 2 ^ 1074 + sign a * min (a % 2 ^ k) 1 =
+        by-sign (sign a) (magnitude a / 2 ^ 1074) (min (magnitude a % 2 ^ 1074) 1) (omega arith) ∙ ap (λ (c : ℕ). magnitude a / 2 ^ 1074 + sign a * c) raised in
+        floor-between ∙ ap (wholeNumber (sign a)) up
+        ∙ sym (fraction-dropped a lo hi .word (sign a * min (a % 2 ^ k) 1) (bit-times (sign a) (a % 2 ^ k) (omega arith)))
+      where
+        by-sign : (s q c : ℕ) → s < 2 → cond (eqb s 0) q (q + c) ≡ q + s * c
+        by-sign zero q c h = if-eq 0 0 q (q + c) refl ∙ omega arith
+        by-sign (suc zero) q c h = if-not-eq 1 0 q (q + c) (λ e. omega arith) ∙ omega arith
+        by-sign (suc (suc s)) q c h = absurd (omega arith)

@@ -1,6 +1,6 @@
 -- Floor, truncation and nearest are IEEE 754's roundToIntegralTowardNegative, -TowardZero and -TiesToEven: the three theorems of specs/Ieee on them, as instances
 -- of one over the rule that chooses the whole number. Rests on WholeMeaning and FloorMeaning, and on Ieee for how the library reads an operand and writes a rounded number.
-use mathlib.Core.Path.{_≡_, sym, ap, ap₂, _∙_}
+use mathlib.Core.Path.{_≡_, sym, ap, _∙_}
 use mathlib.Core.Logic.{inl, inr}
 use mathlib.Core.Bool.{Bool}
 use Prim.Native.Nat.{ℕ, zero, suc, _+_, _*_, _^_, _≤_, _<_}
@@ -17,9 +17,9 @@ use Rattle.binary64.specs.Whole.{wholeNumber}
 use Rattle.binary64.specs.Truncate.{truncate}
 use Rattle.binary64.specs.Nearest.{nearest}
 use Rattle.binary64.specs.Ieee.{ZeroOrNormal, ZeroOrLarge, roundToIntegral, towardNegative, towardZero, tiesToEven, FloorIsIeee, TruncateIsIeee, NearestIsIeee}
-use Rattle.binary64.proofs.Cases.{lt-or-ge, if-le, if-not-le}
+use Rattle.binary64.proofs.Cases.{lt-or-ge}
 use Rattle.binary64.proofs.Round.{bits-exact}
-use Rattle.binary64.proofs.WholeMeaning.{multiple-ge, WholeRule, toward-zero, ties-to-even, roundedBy, rule-large}
+use Rattle.binary64.proofs.WholeMeaning.{multiple-ge, WholeRule, toward-zero, ties-to-even, roundedBy, rounded-large, rounded-below, rule-large}
 use Rattle.binary64.proofs.FloorMeaning.{toward-negative, floor-rounded}
 use Rattle.binary64.proofs.Ieee.{bit, negative, value, negative-is, round-52}
 
@@ -64,9 +64,9 @@ module _ (rule : Bool → ℕ → ℕ → ℕ) (R : (s : Bool) → WholeRule (ru
   pub rounded-is-ieee : (a : ℕ) → a < 2 ^ 64 → ZeroOrNormal a → roundedBy (rule (negative a)) a ≡ toBits binary64 (roundToIntegral rule (ofBits binary64 a))
   rounded-is-ieee a ha z =
       elim (lt-or-ge (expo a) 1075) [
-        | inl l ↦ if-not-le 1075 (expo a) a (wholeNumber (sign a) (rule (negative a) (magnitude a) (2 ^ 1074))) l
+        | inl l ↦ rounded-below (rule (negative a)) a l
         | inr h ↦
-            if-le 1075 (expo a) a (wholeNumber (sign a) (rule (negative a) (magnitude a) (2 ^ 1074))) h
+            rounded-large (rule (negative a)) a h
             ∙ sym (ap (λ (m : ℕ). signed (sign a) (magBits 52 m)) (rule-large (rule (negative a)) (R (negative a)) a h) ∙ normal-word a (omega arith) (normal z h))
       ]
       ∙ sym (integral-word a ha z)

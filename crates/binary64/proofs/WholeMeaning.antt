@@ -1,10 +1,10 @@
--- Truncation and nearest are the whole numbers that they are said to be: the theorems of specs/Meaning on them. Both go by a rule that chooses a whole
+-- Truncation and nearest are the whole numbers that they are said to be: the theorems of specs/Meaning on them. Both, and floor (FloorMeaning), go by a rule that chooses a whole
 -- number for a fraction, and what holds of every such rule is proved once. Rests on Meaning, and knows nothing of a word's bits but what magnitudes say.
 use mathlib.Core.Path.{_≡_, refl, sym, ap, ap₂, _∙_}
 use mathlib.Core.Logic.{inl, inr}
 use mathlib.Core.Bool.{Bool, false, cond}
 use Prim.Native.Nat.{ℕ, zero, suc, _+_, _-_, _*_, _/_, _^_, _≤_, _<_}
-use native.Mathlib.Nat.{le-trans, le-of-eq, le-suc, lt-of-lt-of-le, lt-of-le-of-lt, mul-assoc, mul-one, mul-pos, one-mul, mul-le-mul-right, div-add-mod', mod-lt, div-lt-iff-lt-mul, div-one}
+use native.Mathlib.Nat.{le-trans, le-of-eq, le-suc, lt-of-lt-of-le, lt-of-le-of-lt, mul-assoc, mul-one, one-mul, mul-le-mul-right, div-add-mod', mod-lt, div-lt-iff-lt-mul, div-one}
 use native.Mathlib.Omega.{arith}
 use lib.Arith.{digits-div}
 use lib.Dec.{leb}
@@ -26,17 +26,16 @@ use Rattle.binary64.proofs.Round.{bits-zero, bits-lt, round-none, close
 use Rattle.binary64.proofs.Meaning.{closest-nearest, rounding-means}
 
 -- ---- the operand's magnitude against 2^1074, by its exponent
-pub large-multiple : (E F : ℕ) → 1075 ≤ E → (w : ℕ) × (0 < w) × (magnitudeOf E F ≡ w * 2 ^ 1074)
+large-multiple : (E F : ℕ) → 1075 ≤ E → (w : ℕ) × (magnitudeOf E F ≡ w * 2 ^ 1074)
 large-multiple zero F h = absurd (omega arith)
 large-multiple (suc e) F h =
     let s : e - 1074 + 1074 ≡ e = omega arith in (
       (2 ^ 52 + F) * 2 ^ (e - 1074),
-      mul-pos (omega arith) (pow-pos (e - 1074)),
       ap (λ (x : ℕ). (2 ^ 52 + F) * x) (ap (λ (x : ℕ). 2 ^ x) (sym s) ∙ pow-add 2 (e - 1074) 1074) ∙ sym (mul-assoc (2 ^ 52 + F) (2 ^ (e - 1074)) (2 ^ 1074)),
     )
 
 -- the whole part of a number with a fraction, or one more, has at most 53 bits
-pub next-whole-lt : (a n : ℕ) → expo a < 1075 → n ≤ suc (magnitude a / 2 ^ 1074) → n < 2 ^ 53
+next-whole-lt : (a n : ℕ) → expo a < 1075 → n ≤ suc (magnitude a / 2 ^ 1074) → n < 2 ^ 53
 next-whole-lt a n h next =
     let w : magnitude a / 2 ^ 1074 < 2 ^ 52 = div-lt-iff-lt-mul (pow-pos 1074) .1 (lt-of-lt-of-le (magnitude-below a 1075 h) (le-of-eq (pow-add 2 52 1074))) in
     lt-of-le-of-lt (le-trans next w) (omega arith)
@@ -75,14 +74,14 @@ module _ (n u : ℕ) (n0 : 0 < n) (hn : n < 2 ^ 53) (lu : 52 ≤ u) (hu : u ≤ 
       let r = rounding-means 52 (n * 2 ^ u) (omega arith) (multiple-ge n u n0 lu) .reads (lt-of-le-of-lt (le-of-eq exact) top) in
       sym (mul-one (magnitude (magBits 52 (n * 2 ^ u)))) ∙ r .1 ∙ exact
 
-pub whole-reads : (s n : ℕ) → n < 2 ^ 53 → magnitude (wholeNumber s n) ≡ n * 2 ^ 1074
+whole-reads : (s n : ℕ) → n < 2 ^ 53 → magnitude (wholeNumber s n) ≡ n * 2 ^ 1074
 whole-reads s n h = read-signed s (magBits 52 (n * 2 ^ 1074)) (bits-lt 52 (n * 2 ^ 1074) (omega arith)) ∙ go n h
   where
     go : (n : ℕ) → n < 2 ^ 53 → magnitude (magBits 52 (n * 2 ^ 1074)) ≡ n * 2 ^ 1074
     go zero h = ap magnitude (bits-zero 52) ∙ (unfold magnitude in refl)
     go (suc n) h = reads-multiple (suc n) 1074 (omega arith) h (omega arith) (omega arith)
 
-pub whole-sign : (s n : ℕ) → sign (wholeNumber s n) ≡ s
+whole-sign : (s n : ℕ) → sign (wholeNumber s n) ≡ s
 whole-sign s n = digits-div s (bits-lt 52 (n * 2 ^ 1074) (omega arith))
 
 -- ---- a rule chooses a whole number for the fraction a / b: by its value alone, a whole number for itself, and none above the next one
@@ -97,32 +96,38 @@ toward-zero s = record { same = div-same; whole = div-one; next = λ a b. le-suc
 pub ties-to-even : (s : Bool) → WholeRule (tiesToEven s)
 ties-to-even s = record { same = closest-same; whole = λ n. unfold roundNE in round-none n; next = closest-up }
 
--- what both operations do: `truncate` by towardZero, `nearest` by tiesToEven
+-- what the roundings do: `truncate` by towardZero, `nearest` by tiesToEven, `floor` by towardNegative (FloorMeaning)
 abbrev pub roundedBy : (ℕ → ℕ → ℕ) → ℕ → ℕ
 roundedBy rule a = cond (leb 1075 (expo a)) a (wholeNumber (sign a) (rule (magnitude a) (2 ^ 1074)))
+
+pub rounded-large : (rule : ℕ → ℕ → ℕ) (a : ℕ) → 1075 ≤ expo a → roundedBy rule a ≡ a
+rounded-large rule a h = if-le 1075 (expo a) a (wholeNumber (sign a) (rule (magnitude a) (2 ^ 1074))) h
+
+pub rounded-below : (rule : ℕ → ℕ → ℕ) (a : ℕ) → expo a < 1075 → roundedBy rule a ≡ wholeNumber (sign a) (rule (magnitude a) (2 ^ 1074))
+rounded-below rule a h = if-not-le 1075 (expo a) a (wholeNumber (sign a) (rule (magnitude a) (2 ^ 1074))) h
 
 module _ (rule : ℕ → ℕ → ℕ) (R : WholeRule rule) (a : ℕ) where
   -- from E = 1075 on the operand is a whole number
   pub rule-large : 1075 ≤ expo a → rule (magnitude a) (2 ^ 1074) * 2 ^ 1074 ≡ magnitude a
   rule-large h =
-      let w : (w : ℕ) × (0 < w) × (magnitude a ≡ w * 2 ^ 1074) = unfold magnitude in large-multiple (expo a) (frac a) h in
-      let r : rule (magnitude a) (2 ^ 1074) ≡ w .0 = R .same (magnitude a) (2 ^ 1074) (w .0) 1 (pow-pos 1074) (omega arith) (mul-one (magnitude a) ∙ w .2) ∙ R .whole (w .0) in
-      ap (λ (x : ℕ). x * 2 ^ 1074) r ∙ sym (w .2)
+      let w : (w : ℕ) × (magnitude a ≡ w * 2 ^ 1074) = unfold magnitude in large-multiple (expo a) (frac a) h in
+      let r : rule (magnitude a) (2 ^ 1074) ≡ w .0 = R .same (magnitude a) (2 ^ 1074) (w .0) 1 (pow-pos 1074) (omega arith) (mul-one (magnitude a) ∙ w .1) ∙ R .whole (w .0) in
+      ap (λ (x : ℕ). x * 2 ^ 1074) r ∙ sym (w .1)
 
   pub rounded-reads : magnitude (roundedBy rule a) ≡ rule (magnitude a) (2 ^ 1074) * 2 ^ 1074
   rounded-reads =
       elim (lt-or-ge (expo a) 1075) [
         | inl l ↦
             let n : rule (magnitude a) (2 ^ 1074) < 2 ^ 53 = next-whole-lt a (rule (magnitude a) (2 ^ 1074)) l (R .next (magnitude a) (2 ^ 1074)) in
-            ap magnitude (if-not-le 1075 (expo a) a (wholeNumber (sign a) (rule (magnitude a) (2 ^ 1074))) l) ∙ whole-reads (sign a) (rule (magnitude a) (2 ^ 1074)) n
-        | inr h ↦ ap magnitude (if-le 1075 (expo a) a (wholeNumber (sign a) (rule (magnitude a) (2 ^ 1074))) h) ∙ sym (rule-large h)
+            ap magnitude (rounded-below rule a l) ∙ whole-reads (sign a) (rule (magnitude a) (2 ^ 1074)) n
+        | inr h ↦ ap magnitude (rounded-large rule a h) ∙ sym (rule-large h)
       ]
 
   pub rounded-sign : sign (roundedBy rule a) ≡ sign a
   rounded-sign =
       elim (lt-or-ge (expo a) 1075) [
-        | inl l ↦ ap (λ (x : ℕ). sign x) (if-not-le 1075 (expo a) a (wholeNumber (sign a) (rule (magnitude a) (2 ^ 1074))) l) ∙ whole-sign (sign a) (rule (magnitude a) (2 ^ 1074))
-        | inr h ↦ ap (λ (x : ℕ). sign x) (if-le 1075 (expo a) a (wholeNumber (sign a) (rule (magnitude a) (2 ^ 1074))) h)
+        | inl l ↦ ap (λ (x : ℕ). sign x) (rounded-below rule a l) ∙ whole-sign (sign a) (rule (magnitude a) (2 ^ 1074))
+        | inr h ↦ ap (λ (x : ℕ). sign x) (rounded-large rule a h)
       ]
 
 -- ---- the two operations

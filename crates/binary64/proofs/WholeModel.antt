@@ -14,7 +14,7 @@ use Rattle.binary64.specs.Steps.{roundNE}
 use Rattle.binary64.proofs.Cases.{if-le, if-not-le}
 use Rattle.binary64.proofs.Words.{magnitude-is, magnitude-below}
 use Rattle.binary64.proofs.Round.{bits-zero, round-scale, round-tie, first-dropped}
-use Rattle.binary64.proofs.Dropping.{exact-bits, fraction-dropped, whole-odd, whole-part}
+use Rattle.binary64.proofs.Dropping.{exact-bits, bit-times, fraction-dropped, whole-odd, whole-part}
 
 -- ---- the words of 0 and 1
 pub whole-zero : (s : ℕ) → wholeNumber s 0 ≡ signed s 0
@@ -96,9 +96,4 @@ module _ (a : ℕ) where
       (round-parts (magnitude a) 1074 (expo a - 1) j n (a % 2 ^ suc j) (omega arith) (sym (div-add-mod' (magnitude a) (2 ^ 1074)) ∙ ap (λ (z : ℕ). n * 2 ^ 1074 + z) (d .rest))
       ∙ ap (λ (z : ℕ). roundNE (n * 2 ^ suc j + z) (suc j)) (first-dropped a j)
       ∙ round-tie j n r s hr (mod-lt a (pow-pos j)) ∙ ap (λ (l : ℕ). n + r * min (l + s) 1) o)
-      ∙ sym (d .word (r * min (a / 2 ^ suc j % 2 + s) 1) (up r (a / 2 ^ suc j % 2 + s) hr))
-    where
-      up : (r m : ℕ) → r < 2 → r * min m 1 ≤ 1
-      up zero m h = omega arith
-      up (suc zero) m h = omega arith
-      up (suc (suc r)) m h = absurd (omega arith)
+      ∙ sym (d .word (r * min (a / 2 ^ suc j % 2 + s) 1) (bit-times r (a / 2 ^ suc j % 2 + s) hr))

@@ -1,10 +1,10 @@
 -- The roundings to a whole number as the code selects them, by the range of E and without a branch, against the cases of the definitions.
 -- Rests on FloorModel and WholeModel, which have the cases.
-use mathlib.Core.Path.{_≡_, sym, ap, ap₂, _∙_}
+use mathlib.Core.Path.{_≡_, refl, sym, ap, ap₂, _∙_}
 use mathlib.Core.Bool.{Bool, cond}
 use mathlib.Core.Logic.{inl, inr}
 use Prim.Native.Nat.{ℕ, zero, suc, _+_, _-_, _*_, _/_, _%_, _^_, _≤_, _<_, min}
-use native.Mathlib.Nat.{add-zero, mod-eq-of-lt, mod-lt, div-add-mod'}
+use native.Mathlib.Nat.{add-zero, one-mul, mod-eq-of-lt, mod-lt, div-add-mod'}
 use native.Mathlib.Omega.{arith}
 use lib.Arith.{digits-div}
 use lib.Bits.{bitAnd, and-mask}
@@ -15,9 +15,9 @@ use Rattle.binary64.specs.Floor.{floor}
 use Rattle.binary64.specs.Truncate.{truncate}
 use Rattle.binary64.specs.Nearest.{nearest}
 use Rattle.binary64.specs.Steps.{loweredBy, FractionOf, LastWholeOf}
-use Rattle.binary64.proofs.Cases.{lt-or-ge, by-lt, by-eq}
+use Rattle.binary64.proofs.Cases.{lt-or-ge, by-lt, if-eq, if-not-eq}
 use Rattle.binary64.proofs.Round.{half-added}
-use Rattle.binary64.proofs.FloorModel.{floor-large, floor-zero, floor-small-plus, floor-small-minus, floor-plus, floor-minus}
+use Rattle.binary64.proofs.FloorModel.{floor-large, floor-zero, floor-small-plus, floor-small-minus, floor-word}
 use Rattle.binary64.proofs.WholeModel.{truncate-large, truncate-small, truncate-between, nearest-large, nearest-small, nearest-half, nearest-between}
 
 -- ---- what is taken by the range of E
@@ -47,9 +47,10 @@ room : (a k : ℕ) → a < 2 ^ 64 → expo a < 1075 → k ≤ 52 → a + 2 ^ k <
 room a k h l le = let p : 2 ^ k ≤ 2 ^ 52 = pow-mono {i = k} {j = 52} le in omega arith
 
 -- ---- floor
--- raised by p - 1 first: the quotient is rounded up
-ceiling : (x p : ℕ) → 0 < p → (x + (p - 1)) / p ≡ x / p + min (x % p) 1
-ceiling x p h = go (x / p) (x % p) (div-add-mod' x p) (mod-lt x h)
+-- raised by p - 1 first, where s is 1: the quotient is rounded up
+raised-quotient : (x p s : ℕ) → 0 < p → s < 2 → (x + s * (p - 1)) / p ≡ x / p + s * min (x % p) 1
+raised-quotient x p zero h l = let e : x + 0 * (p - 1) ≡ x = omega arith in ap (λ (z : ℕ). z / p) e ∙ omega arith
+raised-quotient x p (suc zero) h l = ap (λ (z : ℕ). (x + z) / p) (one-mul (p - 1)) ∙ go (x / p) (x % p) (div-add-mod' x p) (mod-lt x h) ∙ omega arith
   where
     go : (q r : ℕ) → q * p + r ≡ x → r < p → (x + (p - 1)) / p ≡ q + min r 1
     go q zero e l =
@@ -58,17 +59,18 @@ ceiling x p h = go (x / p) (x % p) (div-add-mod' x p) (mod-lt x h)
     go q (suc r) e l =
         let s : x + (p - 1) ≡ (q + 1) * p + r = omega arith in
         ap (λ (z : ℕ). z / p) s ∙ digits-div (q + 1) (omega arith) ∙ omega arith
+raised-quotient x p (suc (suc s)) h l = absurd (omega arith)
 
-lowered : (a k : ℕ) → a + 2 ^ k < 2 ^ 64 → loweredBy (2 ^ k - 1) a ≡ cond (eqb (sign a) 0) (a / 2 ^ k * 2 ^ k) ((a / 2 ^ k + min (a % 2 ^ k) 1) * 2 ^ k)
+raised : (a s f : ℕ) → s < 2 → a + f < 2 ^ 64 → (a + cond (eqb s 0) 0 f) % 2 ^ 64 ≡ a + s * f
+raised a zero f l h = ap (λ (c : ℕ). (a + c) % 2 ^ 64) (if-eq 0 0 0 f refl) ∙ mod-eq-of-lt (omega arith) ∙ omega arith
+raised a (suc zero) f l h = ap (λ (c : ℕ). (a + c) % 2 ^ 64) (if-not-eq 1 0 0 f (λ e. omega arith)) ∙ mod-eq-of-lt h ∙ omega arith
+raised a (suc (suc s)) f l h = absurd (omega arith)
+
+lowered : (a k : ℕ) → a < 2 ^ 64 → a + 2 ^ k < 2 ^ 64 → loweredBy (2 ^ k - 1) a ≡ (a / 2 ^ k + sign a * min (a % 2 ^ k) 1) * 2 ^ k
 unfolding loweredBy
-lowered a k h =
-    by-eq (λ (b : Bool). raised b - bitAnd (raised b) (2 ^ k - 1) ≡ cond b (a / 2 ^ k * 2 ^ k) ((a / 2 ^ k + min (a % 2 ^ k) 1) * 2 ^ k)) (sign a) 0
-    (λ _. ap (λ (t : ℕ). t - bitAnd t (2 ^ k - 1)) (omega arith) ∙ without a k)
-    (λ _. ap (λ (t : ℕ). t - bitAnd t (2 ^ k - 1)) (mod-eq-of-lt (omega (arith, pow-pos k))) ∙ without (a + (2 ^ k - 1)) k
-    ∙ ap (λ (q : ℕ). q * 2 ^ k) (ceiling a (2 ^ k) (pow-pos k)))
-  where
-    raised : Bool → ℕ
-    raised b = (a + cond b 0 (2 ^ k - 1)) % 2 ^ 64
+lowered a k ha h =
+    ap (λ (t : ℕ). t - bitAnd t (2 ^ k - 1)) (raised a (sign a) (2 ^ k - 1) (omega arith) (omega arith)) ∙ without (a + sign a * (2 ^ k - 1)) k
+    ∙ ap (λ (q : ℕ). q * 2 ^ k) (raised-quotient a (2 ^ k) (sign a) (pow-pos k) (omega arith))
 
 -- below 1: what is above 800FFFFFFFFFFFFF, a negative number that is no zero, becomes −1
 floor-below-one : (a : ℕ) → a < 2 ^ 64 → expo a < 1023 → signed (sign a) (cond (ltb 0x800FFFFFFFFFFFFF a) (1023 * 2 ^ 52) 0) ≡ floor a
@@ -89,8 +91,7 @@ floor-selected a f b r v ha hf hb hr hv =
     hv ∙ by-range a b r (floor a) (λ l. hb ∙ floor-below-one a ha l)
     (λ g l.
     let k = 1075 - expo a in
-    hr ∙ ap (λ (f : ℕ). loweredBy f a) (hf g l) ∙ lowered a k (room a k ha l (omega arith))
-    ∙ by-eq (λ (b : Bool). cond b (a / 2 ^ k * 2 ^ k) ((a / 2 ^ k + min (a % 2 ^ k) 1) * 2 ^ k) ≡ floor a) (sign a) 0 (λ e. sym (floor-plus a g l e)) (λ n. sym (floor-minus a g l n)))
+    hr ∙ ap (λ (f : ℕ). loweredBy f a) (hf g l) ∙ lowered a k ha (room a k ha l (omega arith)) ∙ sym (floor-word a g l ha))
     (λ l. sym (floor-large a l))
 
 -- ---- truncation

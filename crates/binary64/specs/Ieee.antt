@@ -1,12 +1,12 @@
 -- Agreement with IEEE 754, as statements. `mul`, `add`, `ofBits` and `toBits` at `binary64` are the toolchain library's own IEEE 754 operations; so are `round`, the
 -- float nearest to a quotient of two numbers, `up` and `down`, whose quotient is 2^e, and `closest`, a quotient to the nearest whole number, ties to even.
 -- The statements cover operands that are zeros or normal numbers, wherever the exact result is zero or not below 2^-1022 in magnitude;
--- overflow to E = 2047, F = 0 (an infinity there) and the signs of zeros are included. Outside, document 01 departs from IEEE 754 in these places:
--- - An operand with E = 0, F ≠ 0 is a zero here, a subnormal number there.
+-- overflow to E = 2047, F = 0 (an infinity there) and the signs of zeros are included. Outside, the documents depart from IEEE 754 in these places:
+-- - An operand with E = 0, F ≠ 0 is a zero here, a subnormal number there. So floor of 8000000000000001 is minus zero here, −1 there.
 -- - An exact result that is not zero and below 2^-1022 is a zero of its sign here. There it is rounded to a multiple of 2^-1074: to a zero or a subnormal number,
 --   or, if it is a product just below 2^-1022, to that least normal number (0010000000000001 times 3FEFFFFFFFFFFFFE; 001FFFFFFFFFFFFF times 3FE0000000000000).
 -- - An operand with E = 2047 is a number here, an infinity or NaN there.
--- Floor, truncation and nearest agree for every zero and normal operand. The first and the third of these places concern them too; what they give there is not compared here.
+-- Floor, truncation and nearest agree for every operand that is a zero, with F = 0, or a normal number. The first and the third of these places concern them too; what they give there is not compared here.
 use mathlib.Core.Path.{_≡_}
 use mathlib.Core.Logic.{_⊎_}
 use mathlib.Core.Bool.{Bool, cond}

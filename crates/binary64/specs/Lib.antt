@@ -1,7 +1,7 @@
 -- Document 01's numbers: what a word stands for (Number), rounding (Rounding), whole numbers (Whole), the operations and their list (Operations), and the
--- table of edges.
+-- tables of edges (Edges).
 -- Statements about them: what dropping low bits does to a number (Whole), that rounding and the whole numbers mean what the documents say (Meaning), their
--- sentences on zeros, underflow, cancellation and E = 2047 (Corners), and where the operations are IEEE 754's (Ieee).
+-- sentences on zeros, underflow, cancellation, the roundings' outer ranges and E = 2047 (Corners), and where the operations are IEEE 754's (Ieee).
 -- Steps has names for intermediate numbers only.
 pub mod Number
 pub mod Rounding

@@ -31,13 +31,13 @@ pub record Rounded (u M r : ℕ) : Type 0 where
 abbrev pub RoundingMeans : Type 0
 RoundingMeans = (u M : ℕ) → 52 ≤ u → 2 ^ u ≤ M → Rounded u M (magBits u M)
 
--- r is the whole number of a's sign, a zero among them, whose magnitude is `whole`; it is not above a, and the next whole number is. Below zero the larger
--- magnitude is the smaller number, and the next one is `whole` less 1 in magnitude, or 1 after minus zero.
+-- r is a whole number with the sign of a, `whole` in magnitude, which may be 0; it is not above a, and the next whole number is. Below zero the larger magnitude is the
+-- smaller number, and the next one is `whole` less 1 in magnitude, or 1 after minus zero. Of a zero the magnitude does not tell F: Corners has its word.
 pub record GreatestWhole (a r : ℕ) : Type 0 where
   pub whole : ℕ
   pub reads : magnitude r ≡ whole * 2 ^ 1074
   pub sign-kept : sign r ≡ sign a
-  pub plus : sign a ≡ 0 → (whole * 2 ^ 1074 ≤ magnitude a) × (magnitude a < whole * 2 ^ 1074 + 2 ^ 1074)
+  pub plus : sign a ≡ 0 → (whole * 2 ^ 1074 ≤ magnitude a) × (magnitude a < suc whole * 2 ^ 1074)
   pub minus : sign a ≡ 1 → (magnitude a ≤ whole * 2 ^ 1074) × (whole * 2 ^ 1074 < magnitude a + 2 ^ 1074)
 
 -- "the greatest whole number not above the operand", for every operand

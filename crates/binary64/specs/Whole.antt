@@ -23,6 +23,6 @@ pub record Dropped (a k u : ℕ) : Type 0 where
   pub last : (k ≡ 52 → expo a % 2 ≡ 1) → magnitude a / 2 ^ u % 2 ≡ a / 2 ^ k % 2
 
 -- document 02, No. 1: "All three roundings share one fact about dropping low bits, proved for any count of them." Any count of the 52 bits of F, of any number that is not
--- zero and below E = 2047, where a result stops at F = 0. The roundings drop as many as stand for the fraction: u = 1074.
+-- zero and below E = 2047, where `magBits` stops at F = 0. The roundings drop as many as stand for the fraction: u = 1074.
 abbrev pub DroppingLowBits : Type 0
 DroppingLowBits = (a k u : ℕ) → 1 ≤ expo a → expo a ≤ 2046 → k ≤ 52 → expo a + k ≡ suc u → Dropped a k u

@@ -146,13 +146,13 @@ fn whole(x: f64) -> f64 {
     if n > x { n - 1.0 } else { n }
 }
 
-// A rounding that keeps the sign: `size` is what the number or its magnitude rounds to natively, and the sign of a is put back; from 2^52 on a is
+// A rounding that keeps the sign: `rounded` is what the number or its magnitude rounds to natively, and the sign of a is put back; from 2^52 on a is
 // whole. At E = 0 the two agree whatever F is, for what IEEE 754 reads there rounds to a zero too, but for floor below zero. At E = 2047, where it
 // reads no number, the documents have the operand.
-fn sign_kept(ours: u64, a: u64, size: f64) -> u64 {
+fn sign_kept(ours: u64, a: u64, rounded: f64) -> u64 {
     let m = magnitude(a);
     if m < WHOLE {
-        return compared(ours, bits(size) | (a & 0x8000_0000_0000_0000));
+        return compared(ours, bits(rounded) | (a & 0x8000_0000_0000_0000));
     }
     if m < INFINITY {
         return compared(ours, bits(number(a)));
@@ -160,7 +160,7 @@ fn sign_kept(ours: u64, a: u64, size: f64) -> u64 {
     apart(ours, a)
 }
 
-// A negative number with E = 0 is a zero in the documents; where its F is not 0, IEEE 754 reads a number, above -1.
+// A word with E = 0 and the sign set is minus zero in the documents; where its F is not 0, IEEE 754 reads a number, whose floor is -1.
 pub fn floor(a: u64) -> u64 {
     if 0x8000_0000_0000_0000 < a {
         if a < 0x8010_0000_0000_0000 {

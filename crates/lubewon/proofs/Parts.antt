@@ -127,7 +127,7 @@ cost : {plan operands : List ℕ} {ceiling : ℕ} → Cost plan operands ceiling
 cost h = record { tape = h .tape; inputs = h .inputs }
 
 figures : {plan : List ℕ} {words ands adds : ℕ} → Figures plan words ands adds → Figures plan words ands adds
-figures h = record { words-are = h .words-are; ands-are = h .ands-are; adds-are = h .adds-are }
+figures h = record { words-are = h .words-are; ands-are = h .ands-are; adds-are = h .adds-are; tape-is = h .tape-is }
 
 built-in : {o : Operation} → BuiltIn o → BuiltIn o
 built-in h = record { computes = h .computes; cost = h .cost; figures = h .figures }

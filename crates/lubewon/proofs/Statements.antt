@@ -1,5 +1,5 @@
 -- Most claims once more, at their arguments and with every condition written out: one that is narrowed, or that asks for more, fails here. Left
--- out are the plain machine's laws, the corners, the examples and the turn-downs. Parts does this for the records inside the statements.
+-- out are the plain machine's laws, the corners but two, the examples and the turn-downs. Parts does this for the records inside the statements.
 use mathlib.Core.Path.{_≡_, refl, _∙_}
 use mathlib.Core.Logic.{_⊎_}
 use mathlib.Core.List.{List}
@@ -164,8 +164,8 @@ module _ (C : Claims) where
   nearest-ieee : (a : ℕ) → a < 2 ^ 64 → Alike a → nearest a ≡ toBits binary64 (roundToIntegral tiesToEven (ofBits binary64 a))
   nearest-ieee = C .nearest-is-ieee
 
-  -- the tables have twelve rows and twenty-seven
-  rows : (length edges ≡ 12) × (length roundingEdges ≡ 27)
+  -- the tables have twelve rows and thirty-eight
+  rows : (length edges ≡ 12) × (length roundingEdges ≡ 38)
   unfolding edges roundingEdges
   rows = (refl, refl)
 

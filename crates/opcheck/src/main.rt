@@ -4,7 +4,7 @@ ghost use Prim.Native.Nat.{_≤_};
 use libc::STDOUT_FILENO;
 
 // The operands of document 01's table, the least and greatest of each kind, and where rounding to a whole number turns.
-const EDGES: [u64; 24] = [
+const EDGES: [u64; 26] = [
     0x3ff8000000000000,
     0x0010000000000000,
     0x3fe0000000000000,
@@ -29,6 +29,8 @@ const EDGES: [u64; 24] = [
     0x432fffffffffffff,
     0x4320000000000001,
     0x800fffffffffffff,
+    0x8000000000000001,
+    0x8010000000000000,
 ];
 
 // Pairs drawn at random for each n.
@@ -133,10 +135,10 @@ fn edges_off(n: usize, tape: &[u64], masks: &[u64]) -> u64
     requires { ⌜ n ≤ 8 ⌝ }
 {
     let mut count = 0;
-    for i in 0..576usize {
+    for i in 0..676usize {
         count = std::num::wrapping_add_u64(
             count,
-            pair_off(n, EDGES[i / 24], EDGES[i % 24], tape, masks),
+            pair_off(n, EDGES[i / 26], EDGES[i % 26], tape, masks),
         );
     }
     count

@@ -12,6 +12,7 @@ use Rattle.word.specs.Encoding.{row, named, put, kindOf}
 use Rattle.word.specs.Layout.{pairCount, tapeOf}
 use Rattle.masking.specs.Foretold.{foretoldTape}
 use Rattle.word.proofs.Ranges.{both}
+use Rattle.plans.proofs.Tests.{every, each}
 use Rattle.binary64.specs.Operations.{Product, Sum, Floor, Truncate, Nearest}
 use Rattle.plans.specs.Cost.{Cost, Figures, readsOnly, ofKind}
 use Rattle.plans.specs.BuiltIns.{Described, described}
@@ -45,7 +46,15 @@ plan-units n (w ∷ ws) = ap₂ _+_ (word-units (kindOf w) n) (plan-units n ws) 
 -- one computed test is enough: the units, the registers read, and the words of a plan with ANDs and ADDs among them
 abbrev tested : Described → Bool
 tested d =
-    (leb (units (d .plan)) (d .ceiling) && (readsOnly (d .plan) (d .operands) && (eqb (length (d .plan)) (d .words) && (eqb (ofKind 3 (d .plan)) (d .ands) && eqb (ofKind 8 (d .plan)) (d .adds)))))
+    (leb (units (d .plan)) (d .ceiling) && (readsOnly (d .plan) (d .operands) && (eqb (length (d .plan)) (d .words) && (eqb (ofKind 3 (d .plan)) (d .ands)
+    && (eqb (ofKind 8 (d .plan)) (d .adds) && eqb (units (d .plan)) (d .ands + 12 * d .adds))))))
+
+-- twice the pairs of shares
+abbrev pairsTwice : ℕ → Bool
+pairsTwice n = eqb (2 * pairCount n) (n * (n - 1))
+
+pairs-twice : T (every 9 pairsTwice)
+pairs-twice = tt
 
 -- what is said of a plan's words
 abbrev pub OfWords : Described → Type 0
@@ -56,12 +65,18 @@ of-words d h =
     let t₁ = both (leb (units (d .plan)) (d .ceiling)) _ h in
     let t₂ = both (readsOnly (d .plan) (d .operands)) _ (t₁ .1) in
     let t₃ = both (eqb (length (d .plan)) (d .words)) _ (t₂ .1) in
-    let t₄ = both (eqb (ofKind 3 (d .plan)) (d .ands)) _ (t₃ .1) in (
+    let t₄ = both (eqb (ofKind 3 (d .plan)) (d .ands)) _ (t₃ .1) in
+    let t₅ = both (eqb (ofKind 8 (d .plan)) (d .adds)) _ (t₄ .1) in (
       record {
         tape = λ n least most. le-trans (le-of-eq (plan-units n (d .plan))) (mul-le-mul (leb→le (units (d .plan)) (d .ceiling) (t₁ .0)) (halves (n * (n - 1))));
         inputs = t₂ .0;
       },
-      record { words-are = eqb→eq _ _ (t₃ .0); ands-are = eqb→eq _ _ (t₄ .0); adds-are = eqb→eq _ _ (t₄ .1) },
+      record {
+        words-are = eqb→eq _ _ (t₃ .0);
+        ands-are = eqb→eq _ _ (t₄ .0);
+        adds-are = eqb→eq _ _ (t₅ .0);
+        tape-is = λ n least most. plan-units n (d .plan) ∙ ap₂ _*_ (eqb→eq _ _ (t₅ .1)) (eqb→eq _ _ (each 9 pairsTwice pairs-twice n (omega arith)));
+      },
     )
   where
     halves : (p : ℕ) → 2 * (p / 2) ≤ p

@@ -125,7 +125,7 @@ module _ (x k W h o b : ℕ) (hW : W < 2 ^ 64) (ho : o < 2 ^ 63) (hb : b < 2 ^ 6
   F-lt : F < 2 ^ 64
   F-lt = omega arith
 
-  -- nothing decides
+  -- nothing is added
   pub stays : b % 2 * min o 1 ≡ 0 → roundedUp x W (x % 2 ^ k) h o b ≡ z
   stays e = parts ∙ kept z W h (xorW z W) F b hW F-lt (decision (b % 2) o (bit-lt b) ∙ e)
 

@@ -38,8 +38,9 @@ abbrev pub ofKind : ℕ → List ℕ → ℕ
 ofKind k [] = 0
 ofKind k (w ∷ ws) = cond (eqb (kindOf w) k) 1 0 + ofKind k ws
 
--- a plan's figures
+-- a plan's figures, and the tape words that follow from them
 pub record Figures (plan : List ℕ) (words ands adds : ℕ) : Type 0 where
   pub words-are : length plan ≡ words
   pub ands-are : ofKind 3 plan ≡ ands
   pub adds-are : ofKind 8 plan ≡ adds
+  pub tape-is : (n : ℕ) → 2 ≤ n → n ≤ 8 → foretoldTape n plan ≡ (ands + 12 * adds) * (n * (n - 1))

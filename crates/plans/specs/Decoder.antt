@@ -4,7 +4,7 @@
 -- Nothing here has to be believed: what the plans compute is proved.
 -- Registers: 0 the operand, 22 r, 23 c; 9, 10, 11 the literals, in which a place is 1 where a bit of r and the same bit of the place differ (and place 8 the
 -- bit itself, for r from 56 on), until tests are put beside them; 12 a pattern; 13 the decoded word; 4 and 5 the tests of c. At the end 8 is
--- the place, 6 W, 7 U; before that 6 and 7, and always 3, 14, 19 and 20, are scratch.
+-- the place, 6 W, 7 U; before that 6 and 7, and always 3, 14, 19 and 20, hold words on the way. With the test for E = 0, 21 has it.
 use mathlib.Core.List.{List, [], _∷_, _++_}
 use Prim.Native.Nat.{ℕ}
 use Rattle.word.specs.declared.step.Step.{Step}
@@ -83,20 +83,20 @@ unfolding foldDown
 masks = Shr 7 23 4 ∷ Not 7 7 ∷ Xor 7 7 3 ∷ Spread 7 7 ∷ Shr 7 7 1 ∷ Shl 6 8 0 ∷ foldDown 6
 
 -- up to the last AND
-unfoldable pub twoDecoded : List Step
+unfoldable pub decodedParts : List Step
 unfolding exponentParts literals riding bitPairs pairsOfPairs highAndLow byTests
-twoDecoded =
+decodedParts =
     exponentParts ++ (literals ++ (bitPairs ++ (riding 11 10 4 5 ++ (pairsOfPairs ++ (riding 13 9 4 5 ++ (highAndLow ++ (riding 19 20 4 5 ++ byTests)))))))
 
 unfoldable pub decoder : List Step
-unfolding twoDecoded onePlace masks
-decoder = twoDecoded ++ (And 13 13 5 ∷ (onePlace ++ masks))
+unfolding decodedParts onePlace masks
+decoder = decodedParts ++ (And 13 13 5 ∷ (onePlace ++ masks))
 
 -- register 21: whether r = 0; register 14: whether c = 0, from whether bits 0 to 3 of c are all 0, which rides in register 19, and whether c = 16, in register 5
 unfoldable pub zeroBits : List Step
 zeroBits = Shr 21 13 63 ∷ Shl 3 19 53 ∷ Shr 3 3 63 ∷ Shr 14 5 63 ∷ Xor 14 14 3 ∷ []
 
--- the same with register 21: whether E = 0, which rides in the last AND
+-- the decoder with register 21: whether E = 0, which rides in the last AND
 unfoldable pub decoderWithZero : List Step
-unfolding twoDecoded zeroBits ride onePlace masks
-decoderWithZero = twoDecoded ++ (zeroBits ++ (ride 13 5 21 14 ++ (onePlace ++ masks)))
+unfolding decodedParts zeroBits ride onePlace masks
+decoderWithZero = decodedParts ++ (zeroBits ++ (ride 13 5 21 14 ++ (onePlace ++ masks)))

@@ -1,7 +1,8 @@
 -- The end of a plan that rounds to a whole number by a decision: the bits to drop are cleared, and where one bit and at least one of others are set, one is added in the
 -- last place kept. Adding one flips a run of ones and the place above it, so it is an exclusive-or with ones there.
--- Registers: 0 the operand, 6 the mask W of the bits to drop that are no more than F, 16 the bits to drop, 21 the one bit, 15 whether the operand is below 1, so that the next
--- whole number is 1; 17 the run, 18 what decides; 2 the result; 3, 4, 5, 19 and 20 are scratch. Nothing here has to be believed: what the plans compute is proved.
+-- Registers: 0 the operand; 6 the mask W of the bits to drop where these are low bits of F, else 0; 16 the bits to drop; 21 the one bit; 15 whether the operand is below 1, so
+-- that the next whole number is 1, which need be right only where one may be added; 17 the run, 18 what decides; 2 the result; 3, 4, 5, 19 and 20 are scratch.
+-- Nothing here has to be believed: what the plans compute is proved.
 use mathlib.Core.List.{List, [], _∷_, _++_}
 use Prim.Native.Nat.{ℕ}
 use Rattle.word.specs.declared.step.Step.{Step}
@@ -20,7 +21,7 @@ runAndOr =
     Xor 17 0 6 ∷ Xor 17 17 16 ∷ Not 17 17 ∷
     (runStage 32 ++ (runStage 16 ++ (runStage 8 ++ (runStage 4 ++ (runStage 2 ++ runStage 1)))))
 
--- register 3: what adding one in the last place kept flips, or the bits of 1, 1023 · 2^52, below 1; register 18: in place 0 whether it is added, since the OR is 1 where the
+-- register 3: what adding one in the last place kept flips, or the bits of 1, 1023 · 2^52, by register 15; register 18: in place 0 whether it is added, since the OR is 1 where the
 -- one bit is 0, and else says whether another is set beside it; then the result
 unfoldable pub raiseRounded : List Step
 raiseRounded =

@@ -5,10 +5,10 @@ use Rattle.opcheck.proofs.edges_off.Statement.{statement}
 use Rattle.opcheck.proofs.edges_off.Tie as tie
 
 abbrev Inv-loop : tie.InvT-loop
-Inv-loop n tape masks count₀ i₀ count i = i ≤ 576
+Inv-loop n tape masks count₀ i₀ count i = i ≤ 676
 
 abbrev μ-loop : tie.MeasureT-loop
-μ-loop n tape masks count₀ i₀ count i = 576 - i
+μ-loop n tape masks count₀ i₀ count i = 676 - i
 
 pub edges-off-spec : {M : Type 1} → statement M
 edges-off-spec =

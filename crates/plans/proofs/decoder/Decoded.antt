@@ -58,7 +58,7 @@ unfoldable pub maskU : ℕ → ℕ → ℕ
 maskU c o = shrW (spreadW (xorW (notW (shrW c 4)) o)) 1
 
 -- ---- riders and carriers apart
--- the places for r from 12 up and the tests of c's low bits, each alone
+-- the places for h and the tests of c's low bits, each alone
 abbrev pub highAlone : ℕ → ℕ
 highAlone r = forHigh (andW (andW (lit2 r) (lit1 r)) (lit0 r))
 

@@ -35,12 +35,18 @@ r-tested : T (every 64 rTest)
 unfolding shrW
 r-tested = tt
 
+r-none : (r : ℕ) → r < 64 → Free (placeOf r) × (shrW (placeOf r) 63 ≡ none r)
+r-none r h = let t = both (isFree (placeOf r)) _ (each 64 rTest r-tested r h) in (is-free (placeOf r) (t .0), eqb→eq _ _ (t .1))
+
 abbrev cTest : ℕ → Bool
 cTest c = isFree (chosenBy (testsOf c)) && eqb (xorW (shrW (chosenBy (testsOf c)) 63) (lowTests c / 2 % 2)) (none c)
 
 c-tested : T (every 32 cTest)
 unfolding xorW andW notW shlW shrW spreadW chosenBy pairA pairB testsA testsB
 c-tested = tt
+
+c-none : (c : ℕ) → c < 32 → Free (chosenBy (testsOf c)) × (xorW (shrW (chosenBy (testsOf c)) 63) (lowTests c / 2 % 2) ≡ none c)
+c-none c h = let t = both (isFree (chosenBy (testsOf c))) _ (each 32 cTest c-tested c h) in (is-free (chosenBy (testsOf c)) (t .0), eqb→eq _ _ (t .1))
 
 -- ---- the riders of the last AND
 -- the tests of c's low bits, in places 9 to 11: whether they are all 0 is the second
@@ -61,6 +67,11 @@ both-none E =
     (λ r. by-eq (λ (b : Bool). andW 0 (cond b 1 0) ≡ none E) (E / 64) 0 (λ c. sym (if-not-eq E 0 1 0 (λ e. r (omega arith)))) (λ c. sym (if-not-eq E 0 1 0 (λ e. r (omega arith)))))
 
 -- ---- for every E: the decoded word, and whether E = 0 beside it
+record Marked (E w : ℕ) : Type 0 where
+  word : w < 2 ^ 64
+  carried : carrier w ≡ decodedWord (E % 64) (E / 64)
+  zero : riders w ≡ none E
+
 module _ (E : ℕ) (hE : E < 2048) where
   abbrev r : ℕ
   r = E % 64
@@ -80,25 +91,16 @@ module _ (E : ℕ) (hE : E < 2048) where
   C : TestsOf c
   C = tests-of c (omega arith)
 
-  pub record Beside (w : ℕ) : Type 0 where
-    pub word : w < 2 ^ 64
-    pub carried : carrier w ≡ decodedWord r c
-    pub zero : riders w ≡ none E
-
   marked-is : decodedBy marked r c ≡ rode p t (none r) (none c)
   marked-is =
-      let tr = both (isFree p) (eqb (shrW p 63) (none r)) (each 64 rTest r-tested r (omega arith)) in
-      let tc = both (isFree t) (eqb (xorW (shrW t 63) (lowTests c / 2 % 2)) (none c)) (each 32 cTest c-tested c (omega arith)) in
       decoded-apart r c W C marked
-      ∙ ap₂ (rode p t) (eqb→eq _ _ (tr .1)) (ap (xorW (shrW t 63)) (second (highAlone r) (lowTests c) (W .free-high) (C .tests-lt)) ∙ eqb→eq _ _ (tc .1))
+      ∙ ap₂ (rode p t) (r-none r (omega arith) .1) (ap (xorW (shrW t 63)) (second (highAlone r) (lowTests c) (W .free-high) (C .tests-lt)) ∙ c-none c (omega arith) .1)
 
-  beside-decoded : Beside (decodedBy marked r c)
+  decoded-marked : Marked E (decodedBy marked r c)
   unfolding decodedWord
-  beside-decoded =
-      let tr = both (isFree p) (eqb (shrW p 63) (none r)) (each 64 rTest r-tested r (omega arith)) in
-      let tc = both (isFree t) (eqb (xorW (shrW t 63) (lowTests c / 2 % 2)) (none c)) (each 32 cTest c-tested c (omega arith)) in
-      let fp = is-free p (tr .0) in
-      let ft = is-free t (tc .0) in
+  decoded-marked =
+      let fp = r-none r (omega arith) .0 in
+      let ft = c-none c (omega arith) .0 in
       rw marked-is
       (record {
         word = rode-lt p t (none r) (none c) fp ft (none-lt r) (none-lt c);
@@ -131,7 +133,7 @@ pub decoded-with-zero : (x : ℕ) → x < 2 ^ 64 → WithZero x (markedOf x)
 unfolding markedOf decodedOf belowOf
 decoded-with-zero x hx =
     let w : ℕ = decodedBy marked (lowPart x) (highPart x) in
-    let b : Beside (expo x) (omega arith) w = rw (low-part x, high-part x) (beside-decoded (expo x) (omega arith)) in
+    let b : Marked (expo x) w = rw (low-part x, high-part x) (decoded-marked (expo x) (omega arith)) in
     let e : carrier w ≡ decodedWord (lowPart x) (highPart x) = b .carried ∙ sym (ap₂ decodedWord (low-part x) (high-part x)) in
     let o : onePlaceOf w ≡ onePlaceOf (decodedWord (lowPart x) (highPart x)) = place-carried w (b .word) ∙ ap onePlaceOf e in
     let i : isOne w ≡ isOne (decodedWord (lowPart x) (highPart x)) = one-carried w (b .word) ∙ ap isOne e in

@@ -5,7 +5,7 @@ use mathlib.Core.Path.{_≡_, refl, sym, ap, ap₂, _∙_}
 use mathlib.Core.Logic.{inl, inr}
 use mathlib.Core.Bool.{cond}
 use Prim.Native.Nat.{ℕ, _+_, _-_, _*_, _/_, _%_, _^_, _≤_, _<_, min}
-use native.Mathlib.Nat.{add-zero, zero-mul, mul-zero, mul-one, one-mul, mod-lt, mod-eq-of-lt, mod-one, div-one, lt-of-lt-of-le, eq-zero-or-pos}
+use native.Mathlib.Nat.{mul-zero, mul-one, mod-lt, mod-eq-of-lt, mod-one, div-one, lt-of-lt-of-le, eq-zero-or-pos}
 use native.Mathlib.Omega.{arith}
 use lib.Dec.{T, eqb}
 use lib.ListN.{getD}
@@ -19,7 +19,7 @@ use Rattle.plain.specs.Machine.{stepped}
 use Rattle.binary64.specs.Number.{sign, expo, signed}
 use Rattle.binary64.specs.Floor.{floor}
 use Rattle.binary64.proofs.Cases.{lt-or-ge, if-eq, if-not-eq}
-use Rattle.binary64.proofs.FloorModel.{floor-large, floor-zero, floor-small-plus, floor-small-minus, floor-plus, floor-minus}
+use Rattle.binary64.proofs.FloorModel.{floor-large, floor-zero, floor-small-plus, floor-small-minus, floor-word}
 use Rattle.plans.specs.Computes.{Computes}
 use Rattle.plans.specs.FloorPlan.{floorSteps, floorPlan}
 use Rattle.plans.proofs.Registers.{runSteps, tab}
@@ -147,16 +147,7 @@ module _ (x : ℕ) (hx : x < 2 ^ 64) where
       floored x k 0 W 0 hx (omega arith) (omega arith) (xor-zero W)
       ∙ ap₂ (λ (n b : ℕ). roundedUp x W (x % 2 ^ k) n (x % 2 ^ k) b) below-none (mul-one (sign x))
       ∙ next-above x k (x % 2 ^ k) (sign x) hx hi hk small (omega arith)
-      ∙ elim (lt-or-ge (sign x) 1) [
-        | inl z ↦
-            let s : sign x ≡ 0 = omega arith in
-            ap (λ (s : ℕ). (x / 2 ^ k + s % 2 * min (x % 2 ^ k) 1) * 2 ^ k) s
-            ∙ ap (λ (v : ℕ). (x / 2 ^ k + v) * 2 ^ k) (zero-mul (min (x % 2 ^ k) 1)) ∙ ap (λ (v : ℕ). v * 2 ^ k) (add-zero (x / 2 ^ k)) ∙ sym (floor-plus x lo hi s)
-        | inr g ↦
-            let s : sign x ≡ 1 = omega arith in
-            ap (λ (s : ℕ). (x / 2 ^ k + s % 2 * min (x % 2 ^ k) 1) * 2 ^ k) s
-            ∙ ap (λ (v : ℕ). (x / 2 ^ k + v) * 2 ^ k) (one-mul (min (x % 2 ^ k) 1)) ∙ sym (floor-minus x lo hi (λ z. omega arith))
-      ]
+      ∙ ap (λ (s : ℕ). (x / 2 ^ k + s * min (x % 2 ^ k) 1) * 2 ^ k) (mod-eq-of-lt (omega arith)) ∙ sym (floor-word x lo hi hx)
 
   floor-above : 1075 ≤ expo x → flooredTo x 0 0 0 ≡ floor x
   floor-above g =

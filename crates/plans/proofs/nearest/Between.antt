@@ -1,11 +1,11 @@
 -- Nearest's plan where the decoder leaves a place, that of the first bit dropped: 1023 ≤ E ≤ 1074. Rests on Parts and RoundUp.
-use mathlib.Core.Path.{_≡_, refl, sym, ap, ap₂, _∙_, subst}
+use mathlib.Core.Path.{_≡_, refl, sym, ap, ap₂, _∙_}
 use Prim.Native.Nat.{ℕ, suc, _+_, _-_, _*_, _/_, _%_, _^_, _≤_, _<_, min}
 use native.Mathlib.Nat.{lt-of-lt-of-le, pow-suc, mod-lt, mod-eq-of-lt}
 use native.Mathlib.Numerals.{one-add}
 use native.Mathlib.Omega.{arith}
 use lib.Pow.{pow-pos, pow-mono, pow-lt, mod-pow-add}
-use Rattle.bits.specs.Ops.{xorW, andW, shlW, shrW}
+use Rattle.bits.specs.Ops.{xorW, andW, shlW}
 use Rattle.bits.proofs.Digits.{digit, bit-lt}
 use Rattle.bits.proofs.Xor.{xor-zero, xor-comm, xor-cancel, and-comm}
 use Rattle.bits.proofs.Places.{and-low, shl-exact}

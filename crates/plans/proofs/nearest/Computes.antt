@@ -51,7 +51,7 @@ module _ (x : ℕ) (hx : x < 2 ^ 64) where
         | inl l ↦
             let m = d .below (omega arith) in
             left 0 0 (2 ^ 63 - 1) 0 (m .0) (m .1) (m .2) (d .half ∙ if-not-eq (expo x) 1022 1 0 (λ e. omega arith))
-            ∙ none-first x hx 63 ∙ sym (nearest-small x l ∙ add-zero (sign x * 2 ^ 63))
+            ∙ none-first x 63 ∙ sym (nearest-small x l ∙ add-zero (sign x * 2 ^ 63))
         | inr g ↦ elim (lt-or-ge (expo x) 1023) [
           | inl l ↦
               let m = d .below l in
@@ -67,7 +67,7 @@ module _ (x : ℕ) (hx : x < 2 ^ 64) where
             | inr g₂ ↦
                 let m = d .large g₂ in
                 left 0 0 0 0 (m .0) (m .1) (m .2) (d .half ∙ if-not-eq (expo x) 1022 1 0 (λ e. omega arith))
-                ∙ none-first x hx 0 ∙ mul-one (x / 1) ∙ div-one x ∙ sym (nearest-large x g₂)
+                ∙ none-first x 0 ∙ mul-one (x / 1) ∙ div-one x ∙ sym (nearest-large x g₂)
           ]
         ]
       ]

@@ -1,19 +1,19 @@
 -- Nearest's plan where the decoder leaves no place: E < 1023, and E from 1075 on. Rests on Parts and RoundUp.
-use mathlib.Core.Path.{_≡_, refl, sym, ap, ap₂, _∙_}
-use Prim.Native.Nat.{ℕ, _+_, _-_, _*_, _/_, _%_, _^_, _≤_, _<_, min}
+use mathlib.Core.Path.{_≡_, refl, ap, ap₂, _∙_}
+use Prim.Native.Nat.{ℕ, _-_, _*_, _/_, _%_, _^_, _<_, min}
 use native.Mathlib.Nat.{one-mul, zero-mul}
 use native.Mathlib.Omega.{arith}
-use Rattle.bits.specs.Ops.{xorW, andW, shlW, shrW}
+use Rattle.bits.specs.Ops.{xorW, andW, shlW}
 use Rattle.bits.proofs.Xor.{xor-zero, xor-zero-l, and-zero, and-zero-l}
 use Rattle.bits.proofs.Places.{and-low}
 use Rattle.binary64.specs.Number.{sign, frac, signed}
 use Rattle.plans.proofs.Fields.{low-bits}
 use Rattle.plans.proofs.RoundUp.{roundedUp, stays, next-below}
 use Rattle.plans.proofs.decoder.Decoded.{fold}
-use Rattle.plans.proofs.nearest.Parts.{bitsOf, firstOf, othersOf, roundedTo, fold-none}
+use Rattle.plans.proofs.nearest.Parts.{firstOf, othersOf, roundedTo, fold-none}
 
 -- ---- no place is decoded: the first bit dropped is h, and U decides what is dropped
-module _ (x : ℕ) (hx : x < 2 ^ 64) (k : ℕ) where
+module _ (x k : ℕ) where
   first-is : (h : ℕ) → firstOf x 0 h ≡ h
   unfolding firstOf
   first-is h = ap (λ (w : ℕ). xorW w h) (ap fold (and-zero x) ∙ fold-none) ∙ xor-zero-l h
@@ -38,5 +38,5 @@ pub half : (x : ℕ) → x < 2 ^ 64 → roundedTo x 0 0 (2 ^ 63 - 1) 1 ≡ signe
 half x hx =
     let o : ℕ = x % 2 ^ 63 % 2 ^ 52 in
     let e : x % 2 ^ 63 % 2 ^ 52 ≡ frac x = omega arith in
-    outside x hx 63 1 ∙ next-below x o 1 hx (omega arith) (omega arith)
+    outside x 63 1 ∙ next-below x o 1 hx (omega arith) (omega arith)
     ∙ ap (λ (v : ℕ). signed (sign x) (v * (1023 * 2 ^ 52))) (one-mul (min o 1) ∙ ap (λ (v : ℕ). min v 1) e)
