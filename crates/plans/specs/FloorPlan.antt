@@ -1,6 +1,6 @@
 -- The built-in plan of floor: document 01, "Each built-in plan is a constant table of at most 2,048 words, .. with operands in registers 0
 -- and 1 and the result in 2"; document 02, No. 2 for zeros. The bits to drop, by the decoder, are cleared, and where the operand is negative and no zero and one of
--- them is set, one is added in the last place kept, or put below 1, where none is kept (RoundUp).
+-- them is set, one is added in the last place kept; below 1, where none is kept, the bits of 1 are put (RoundUp).
 -- Registers: 6 W, 7 U; 15 whether E < 1023, 16 the bits to drop, 21 whether E = 0, then whether the operand is negative and no zero; 3 and 4 are scratch.
 use mathlib.Core.List.{List, [], _∷_, _++_, map}
 use Prim.Native.Nat.{ℕ}
