@@ -167,9 +167,10 @@ lubewon_answer lubewon_nearest_in_place(uint64_t *x, size_t x_len, uint64_t *wor
  *
  * Floor, truncation and nearest return an operand with E >= 1075 as it is. Below that, floor is the greatest whole number not above the operand,
  * so that -0.5 gives -1; truncation drops the fraction; nearest is the nearest whole number, of two equally near the even one, so that 2.5 gives 2.
- * Truncation and nearest keep the sign, so that -0.5 gives minus zero. An operand with E = 0 gives the zero of its sign: floor of minus zero is
- * minus zero. For every zero (E = F = 0) and every normal operand (E from 1 to 2046) all three have IEEE 754's bits, those of C's floor and trunc,
- * and of its rint where it rounds to nearest; where E = 0, F is not 0 and the sign is set, C reads a subnormal number and its floor gives -1. */
+ * All three keep the sign, so that truncation and nearest of -0.5 are minus zero. An operand with E = 0 gives the zero of its sign: floor of minus
+ * zero is minus zero. For every zero (E = F = 0) and every normal operand (E from 1 to 2046) all three have IEEE 754's bits, those of C's floor and
+ * trunc, and of its rint in the mode to nearest. Where E = 0, F is not 0 and the sign is set, C reads a subnormal number and its floor gives -1; here
+ * it is minus zero. */
 uint64_t lubewon_product(uint64_t a, uint64_t b);
 uint64_t lubewon_sum(uint64_t a, uint64_t b);
 uint64_t lubewon_floor(uint64_t a);

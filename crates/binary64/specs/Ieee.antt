@@ -44,7 +44,7 @@ SumIsIeee =
     → sum a b ≡ toBits binary64 (add binary64 (ofBits binary64 a) (ofBits binary64 b))
 
 -- IEEE 754's round-to-integral operations, which the library does not have, from the text of 754-2019: a number becomes the integral value that the rule
--- chooses by its sign (true below zero) and its magnitude, m · 2^e, which is the quotient of m * up e by down e (5.9), with the operand's sign where that is a
+-- chooses by its sign (true where the sign bit is set) and its magnitude, m · 2^e, which is the quotient of m * up e by down e (5.9), with the operand's sign where that is a
 -- zero too (6.3); an infinity comes back as it is and a NaN stays one.
 abbrev pub roundToIntegral : (Bool → ℕ → ℕ → ℕ) → Float → Float
 roundToIntegral rule nan = nan

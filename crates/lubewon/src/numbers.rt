@@ -30,7 +30,7 @@ pub extern "C" fn lubewon_sum(a: u64, b: u64) -> u64
     binary64::sum(a, b)
 }
 
-// The greatest whole number not above a number, a zero with its sign.
+// The greatest whole number not above a number, with its sign.
 #[no_mangle]
 pub extern "C" fn lubewon_floor(a: u64) -> u64
     ensures { λ r. ⌜ r ≡ floor-spec.floor a ⌝ }
