@@ -7,23 +7,19 @@ use native.Mathlib.Omega.{arith}
 use lib.Arith.{digits-div}
 use lib.Ieee.{size}
 use Rattle.bits.specs.Ops.{xorW}
-use Rattle.binary64.specs.Number.{sign, expo, frac, magnitudeOf, magnitude, signed}
+use Rattle.binary64.specs.Number.{sign, expo, frac, magnitude, signed}
 use Rattle.binary64.specs.Rounding.{roundedE, roundedF, magBits}
 use Rattle.binary64.specs.Product.{product}
 use Rattle.binary64.specs.Sum.{sumOf, sum}
 use Rattle.binary64.specs.Corners.{Corners}
 use Rattle.binary64.proofs.Cases.{zero-one}
-use Rattle.binary64.proofs.Words.{sign-cases, magnitude-is}
+use Rattle.binary64.proofs.Words.{sign-cases, magnitude-zero, magnitude-is}
 use Rattle.binary64.proofs.Round.{bits-small, bits-lt, bits-zero}
 use Rattle.binary64.proofs.SumCases.{sum-like, sum-greater, sum-equal, sum-comm}
 use Rattle.binary64.proofs.FloorModel as F
 use Rattle.binary64.proofs.WholeModel as W
 
 -- ---- reading a word
-reads-zero : (a : ℕ) → expo a ≡ 0 → magnitude a ≡ 0
-unfolding magnitude
-reads-zero a h = ap (λ (E : ℕ). magnitudeOf E (frac a)) h
-
 reads-number : (a : ℕ) → 1 ≤ expo a → magnitude a ≡ (2 ^ 52 + frac a) * 2 ^ (expo a - 1)
 reads-number a h = magnitude-is a (expo a - 1) (omega arith)
 
@@ -75,7 +71,7 @@ zeros-plus a b ha hb za zb n =
 pub corners : Corners
 corners =
     record {
-      reads-zero = reads-zero;
+      reads-zero = magnitude-zero;
       reads-number = reads-number;
       product-sign = product-sign;
       product-underflow = product-underflow;

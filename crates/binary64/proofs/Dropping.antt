@@ -8,6 +8,7 @@ use native.Mathlib.Omega.{arith}
 use lib.Arith.{digits-div, digits-mod}
 use lib.Bits.{block-odd}
 use lib.Pow.{pow-pos, pow-add}
+use Rattle.bits.proofs.Digits.{digit}
 use Rattle.binary64.specs.Number.{sign, expo, frac, magnitude, signed}
 use Rattle.binary64.specs.Rounding.{magBits}
 use Rattle.binary64.specs.Whole.{multipleOf, wholeNumber, Dropped, DroppingLowBits}
@@ -149,9 +150,7 @@ dropping-low-bits a k u lo hi hk s = go (expo a) refl lo hi s
 
 -- what a decision adds: r, where one bit of m is set
 pub bit-times : (r m : ℕ) → r < 2 → r * min m 1 ≤ 1
-bit-times zero m h = omega arith
-bit-times (suc zero) m h = omega arith
-bit-times (suc (suc r)) m h = absurd (omega arith)
+bit-times r m h = digit (λ r. r * min m 1 ≤ 1) (omega arith) (omega arith) r h
 
 -- ---- the fraction: 1023 ≤ E ≤ 1074
 module _ (a : ℕ) (lo : 1023 ≤ expo a) (hi : expo a < 1075) where

@@ -8,13 +8,13 @@ use native.Mathlib.Nat.{add-zero, zero-add, add-mul, div-add-mod', div-eq-of-lt,
 use native.Mathlib.Omega.{arith}
 use lib.Pow.{pow-pos}
 use lib.Ieee.Nearest.{div-same}
-use Rattle.binary64.specs.Number.{sign, expo, frac, magnitudeOf, magnitude, signed}
+use Rattle.binary64.specs.Number.{sign, expo, frac, magnitude, signed}
 use Rattle.binary64.specs.Whole.{wholeNumber}
 use Rattle.binary64.specs.Floor.{wholeOf, floor}
 use Rattle.binary64.specs.Ieee.{towardNegative}
 use Rattle.binary64.specs.Meaning.{GreatestWhole, FloorMeans}
 use Rattle.binary64.proofs.Cases.{lt-or-ge, zero-one, if-eq, if-not-eq}
-use Rattle.binary64.proofs.Words.{sign-cases, magnitude-is, magnitude-below}
+use Rattle.binary64.proofs.Words.{sign-cases, magnitude-zero, magnitude-is, magnitude-below}
 use Rattle.binary64.proofs.FloorModel.{some-units, floor-zero, floor-large, floor-small-plus, floor-small-minus, floor-between}
 use Rattle.binary64.proofs.WholeModel.{whole-zero, one-bits}
 use Rattle.binary64.proofs.WholeMeaning.{floor-bounds, WholeRule, roundedBy, rounded-large, rounded-below, rounded-reads, rounded-sign}
@@ -71,7 +71,7 @@ module _ (a : ℕ) where
           omega arith
 
       none : expo a ≡ 0 → min (magnitude a) 1 ≡ 0
-      none z = let m : magnitude a ≡ 0 = (unfold magnitude in ap (λ (E : ℕ). magnitudeOf E (frac a)) z) in omega arith
+      none z = ap (λ (m : ℕ). min m 1) (magnitude-zero a z)
 
       small : (s : Bool) → sign a ≡ cond s 1 0 → expo a < 1023 → floor a ≡ wholeNumber (sign a) (cond s (min (magnitude a) 1) 0)
       small false e k = floor-small-plus a k e ∙ sym (whole-zero (sign a) ∙ ap (λ (s : ℕ). signed s 0) e)

@@ -1,7 +1,7 @@
 -- Floor on the word itself, by the ranges of E. Between E = 1023 and 1074 it clears the k = 1075 - E fraction bits of the word, and adds 2^k to a negative one that
 -- had a fraction.
 -- Rests on Dropping.
-use mathlib.Core.Path.{_≡_, refl, sym, ap, _∙_}
+use mathlib.Core.Path.{_≡_, sym, ap, _∙_}
 use mathlib.Core.Logic.{inl, inr}
 use mathlib.Core.Bool.{cond}
 use Prim.Native.Nat.{ℕ, zero, suc, _+_, _-_, _*_, _/_, _%_, _^_, _≤_, _<_, min}
@@ -9,6 +9,7 @@ use native.Mathlib.Nat.{mul-pos, zero-mul, eq-zero-or-pos}
 use native.Mathlib.Omega.{arith}
 use lib.Dec.{eqb}
 use lib.Pow.{pow-pos}
+use Rattle.bits.proofs.Digits.{digit}
 use Rattle.binary64.specs.Number.{sign, expo, magnitude, signed}
 use Rattle.binary64.specs.Whole.{wholeNumber}
 use Rattle.binary64.specs.Floor.{wholeOf, floor}
@@ -61,6 +62,4 @@ module _ (a : ℕ) where
         ∙ sym (fraction-dropped a lo hi .word (sign a * min (a % 2 ^ k) 1) (bit-times (sign a) (a % 2 ^ k) (omega arith)))
       where
         by-sign : (s q c : ℕ) → s < 2 → cond (eqb s 0) q (q + c) ≡ q + s * c
-        by-sign zero q c h = if-eq 0 0 q (q + c) refl ∙ omega arith
-        by-sign (suc zero) q c h = if-not-eq 1 0 q (q + c) (λ e. omega arith) ∙ omega arith
-        by-sign (suc (suc s)) q c h = absurd (omega arith)
+        by-sign s q c h = digit (λ s. cond (eqb s 0) q (q + c) ≡ q + s * c) (omega arith) (omega arith) s h

@@ -10,6 +10,7 @@ use Rattle.binary64.specs.Number.{sign, expo, frac, magnitudeOf, magnitu
 use Rattle.binary64.specs.Rounding.{magBits}
 use Rattle.binary64.specs.Sum.{sumOf, sum}
 use Rattle.binary64.specs.Steps.{jam, encoded, alignedOf, aligned}
+use Rattle.binary64.proofs.Words.{magnitude-zero}
 use Rattle.binary64.proofs.Cases.{lt-or-ge, if-lt, if-not-lt, if-eq, if-not-eq}
 use Rattle.binary64.proofs.Jam.{jam-le, jam-zero, jam-pos}
 use Rattle.binary64.proofs.Round.{bits-zero}
@@ -177,10 +178,7 @@ subtracted e F (suc y) G o =
 -- ---- over the operands, ordered by their bits 62..0
 module _ (a b : ℕ) (le : b % 2 ^ 63 ≤ a % 2 ^ 63) where
   zeros : expo a ≡ 0 → (magnitude a ≡ 0) × (magnitude b ≡ 0)
-  unfolding magnitude
-  zeros h =
-      let hb : expo b ≡ 0 = omega arith in
-      (ap (λ (E : ℕ). magnitudeOf E (frac a)) h, ap (λ (E : ℕ). magnitudeOf E (frac b)) hb)
+  zeros h = (magnitude-zero a h, magnitude-zero b (omega arith))
 
   pub zeros-like : expo a ≡ 0 → sign a ≡ sign b → sum a b ≡ sign a * 2 ^ 63
   unfolding sum

@@ -1,6 +1,6 @@
 -- The roundings to a whole number as the code selects them, by the range of E and without a branch, against the cases of the definitions.
 -- Rests on FloorModel and WholeModel, which have the cases.
-use mathlib.Core.Path.{_≡_, refl, sym, ap, ap₂, _∙_}
+use mathlib.Core.Path.{_≡_, sym, ap, ap₂, _∙_}
 use mathlib.Core.Bool.{Bool, cond}
 use mathlib.Core.Logic.{inl, inr}
 use Prim.Native.Nat.{ℕ, zero, suc, _+_, _-_, _*_, _/_, _%_, _^_, _≤_, _<_, min}
@@ -10,12 +10,13 @@ use lib.Arith.{digits-div}
 use lib.Bits.{bitAnd, and-mask}
 use lib.Dec.{ltb, eqb}
 use lib.Pow.{pow-pos, pow-mono, ones-split, ones-lt, high}
+use Rattle.bits.proofs.Digits.{digit}
 use Rattle.binary64.specs.Number.{sign, expo, frac, signed}
 use Rattle.binary64.specs.Floor.{floor}
 use Rattle.binary64.specs.Truncate.{truncate}
 use Rattle.binary64.specs.Nearest.{nearest}
 use Rattle.binary64.specs.Steps.{loweredBy, FractionOf, LastWholeOf}
-use Rattle.binary64.proofs.Cases.{lt-or-ge, by-lt, if-eq, if-not-eq}
+use Rattle.binary64.proofs.Cases.{lt-or-ge, by-lt}
 use Rattle.binary64.proofs.Round.{half-added}
 use Rattle.binary64.proofs.FloorModel.{floor-large, floor-zero, floor-small-plus, floor-small-minus, floor-word}
 use Rattle.binary64.proofs.WholeModel.{truncate-large, truncate-small, truncate-between, nearest-large, nearest-small, nearest-half, nearest-between}
@@ -49,22 +50,21 @@ room a k h l le = let p : 2 ^ k ≤ 2 ^ 52 = pow-mono {i = k} {j = 52} le in ome
 -- ---- floor
 -- raised by p - 1 first, where s is 1: the quotient is rounded up
 raised-quotient : (x p s : ℕ) → 0 < p → s < 2 → (x + s * (p - 1)) / p ≡ x / p + s * min (x % p) 1
-raised-quotient x p zero h l = let e : x + 0 * (p - 1) ≡ x = omega arith in ap (λ (z : ℕ). z / p) e ∙ omega arith
-raised-quotient x p (suc zero) h l = ap (λ (z : ℕ). (x + z) / p) (one-mul (p - 1)) ∙ go (x / p) (x % p) (div-add-mod' x p) (mod-lt x h) ∙ omega arith
+raised-quotient x p s h l =
+    digit (λ s. (x + s * (p - 1)) / p ≡ x / p + s * min (x % p) 1)
+    (let e : x + 0 * (p - 1) ≡ x = omega arith in ap (λ (z : ℕ). z / p) e ∙ omega arith)
+    (ap (λ (z : ℕ). (x + z) / p) (one-mul (p - 1)) ∙ up (x / p) (x % p) (div-add-mod' x p) (mod-lt x h) ∙ omega arith) s l
   where
-    go : (q r : ℕ) → q * p + r ≡ x → r < p → (x + (p - 1)) / p ≡ q + min r 1
-    go q zero e l =
+    up : (q r : ℕ) → q * p + r ≡ x → r < p → (x + (p - 1)) / p ≡ q + min r 1
+    up q zero e l =
         let s : x + (p - 1) ≡ q * p + (p - 1) = omega arith in
         ap (λ (z : ℕ). z / p) s ∙ digits-div q (omega arith) ∙ omega arith
-    go q (suc r) e l =
+    up q (suc r) e l =
         let s : x + (p - 1) ≡ (q + 1) * p + r = omega arith in
         ap (λ (z : ℕ). z / p) s ∙ digits-div (q + 1) (omega arith) ∙ omega arith
-raised-quotient x p (suc (suc s)) h l = absurd (omega arith)
 
 raised : (a s f : ℕ) → s < 2 → a + f < 2 ^ 64 → (a + cond (eqb s 0) 0 f) % 2 ^ 64 ≡ a + s * f
-raised a zero f l h = ap (λ (c : ℕ). (a + c) % 2 ^ 64) (if-eq 0 0 0 f refl) ∙ mod-eq-of-lt (omega arith) ∙ omega arith
-raised a (suc zero) f l h = ap (λ (c : ℕ). (a + c) % 2 ^ 64) (if-not-eq 1 0 0 f (λ e. omega arith)) ∙ mod-eq-of-lt h ∙ omega arith
-raised a (suc (suc s)) f l h = absurd (omega arith)
+raised a s f l h = digit (λ s. (a + cond (eqb s 0) 0 f) % 2 ^ 64 ≡ a + s * f) (mod-eq-of-lt (omega arith) ∙ omega arith) (mod-eq-of-lt h ∙ omega arith) s l
 
 lowered : (a k : ℕ) → a < 2 ^ 64 → a + 2 ^ k < 2 ^ 64 → loweredBy (2 ^ k - 1) a ≡ (a / 2 ^ k + sign a * min (a % 2 ^ k) 1) * 2 ^ k
 unfolding loweredBy

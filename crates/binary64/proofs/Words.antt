@@ -32,7 +32,11 @@ sign-cases a h = go (sign a) (omega arith)
     go zero l = inl (omega arith)
     go (suc s) l = inr (omega arith)
 
--- the magnitude of a word that is no zero
+-- the magnitude of a zero, and of a word that is none
+pub magnitude-zero : (a : ℕ) → expo a ≡ 0 → magnitude a ≡ 0
+unfolding magnitude
+magnitude-zero a q = ap (λ (E : ℕ). magnitudeOf E (frac a)) q
+
 pub magnitude-is : (a e : ℕ) → expo a ≡ suc e → magnitude a ≡ (2 ^ 52 + frac a) * 2 ^ e
 unfolding magnitude
 magnitude-is a e q = ap (λ (E : ℕ). magnitudeOf E (frac a)) q

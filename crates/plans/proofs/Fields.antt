@@ -29,6 +29,9 @@ pub low-bits : (a m k : ℕ) → m + k ≡ 64 → shrW (shlW a m) m ≡ a % 2 ^ 
 low-bits a m k e =
     ap (shrW (shlW a m)) (sym (add-zero m)) ∙ field a m 0 k (ap (λ (x : ℕ). x + k) (add-zero m) ∙ e) ∙ ap (λ (x : ℕ). x % 2 ^ k) (div-one a)
 
+pub low-lt : (x k n : ℕ) → k ≤ n → x % 2 ^ k < 2 ^ n
+low-lt x k n h = lt-of-lt-of-le (mod-lt x (pow-pos k)) (pow-mono {i = k} {j = n} h)
+
 -- these by their places
 pub low-in : (k a i : ℕ) → k ≤ 64 → i < k → bit (shrW (shlW a (64 - k)) (64 - k)) i ≡ bit a i
 low-in k a i l h = ap (λ (x : ℕ). bit x i) (low-bits a (64 - k) k (omega arith)) ∙ bit-mod a k i h

@@ -2,7 +2,7 @@
 -- Rests on RunOfOnes for the run and the OR beside it, and on Fields.
 use mathlib.Core.Path.{_≡_, refl, sym, ap, ap₂, _∙_}
 use Prim.Native.Nat.{ℕ, _+_, _-_, _*_, _/_, _%_, _^_, _≤_, _<_, min}
-use native.Mathlib.Nat.{add-zero, mul-zero, mul-one, zero-mul, div-one, div-mul-le-self, le-of-eq, lt-of-le-of-lt}
+use native.Mathlib.Nat.{add-zero, mul-zero, mul-one, zero-mul, div-mul-le-self, le-of-eq, lt-of-le-of-lt}
 use native.Mathlib.Omega.{arith}
 use lib.Bits.{differ}
 use lib.Pow.{pow-pos, pow-mono, ones-lt}
@@ -27,7 +27,7 @@ unfoldable pub raisedWhere : ℕ → ℕ → ℕ → ℕ → ℕ → ℕ → ℕ
 raisedWhere z W h y F b =
     xorW z (andW (xorW (xorW (notW (shlW (runOf (notW y) F) 1)) W) (oneOf h)) (spreadW (xorW (notW (orOf (notW y) F)) b)))
 
--- f the bits to drop, h whether the next whole number is 1
+-- x the operand, f its bits to drop, W those of them that are low bits of F, h whether the next whole number is 1, o and b what decides
 unfoldable pub roundedUp : ℕ → ℕ → ℕ → ℕ → ℕ → ℕ → ℕ
 roundedUp x W f h o b = raisedWhere (xorW x f) W h (xorW (xorW x W) f) (xorW o (shlW (notW b) 63)) b
 
@@ -42,14 +42,15 @@ one-some = refl
 next-of-one : xorW 1 (1023 * 2 ^ 52 + 1) ≡ 1023 * 2 ^ 52
 next-of-one = unfold xorW in refl
 
+-- the lowest bit of NOT
+not-odd : (w : ℕ) → w < 2 ^ 64 → notW w % 2 ≡ 1 - w % 2
+not-odd w h = sym (bit-zero (notW w)) ∙ bit-not w 0 h (omega arith) ∙ ap (λ (v : ℕ). 1 - v) (bit-zero w)
+
 -- ---- whether one is added: b and one of the bits of F; where b is 0 F holds a bit
 added : (y F b : ℕ) → F < 2 ^ 64 → xorW (notW (orOf (notW y) F)) b % 2 ≡ differ (1 - min F 1) (b % 2)
 added y F b h =
-    xor-odd (notW (orOf (notW y) F)) b
-    ∙ ap (λ (v : ℕ). differ v (b % 2))
-    (ap (λ (w : ℕ). w % 2) (sym (div-one (notW (orOf (notW y) F))))
-    ∙ bit-not (orOf (notW y) F) 0 (or-lt (notW y) F (not-lt y) h) (omega arith)
-    ∙ ap (λ (w : ℕ). 1 - w) (ap (λ (w : ℕ). w % 2) (div-one (orOf (notW y) F)) ∙ any (notW y) F (not-lt y) h))
+    let O : ℕ = orOf (notW y) F in
+    xor-odd (notW O) b ∙ ap (λ (v : ℕ). differ v (b % 2)) (not-odd O (or-lt (notW y) F (not-lt y) h) ∙ ap (λ (w : ℕ). 1 - w) (any (notW y) F (not-lt y) h))
 
 one-lt : (h : ℕ) → oneOf h < 2 ^ 64
 unfolding oneOf
@@ -86,7 +87,7 @@ module _ (z W h y F b : ℕ) (hW : W < 2 ^ 64) (hF : F < 2 ^ 64) where
 -- ---- from the bit and the others: F is the others, with the opposite of the bit in place 63
 pub opposite : (b : ℕ) → b < 2 ^ 64 → shlW (notW b) 63 ≡ (1 - b % 2) * 2 ^ 63
 unfolding shlW
-opposite b h = top (notW b) ∙ ap (λ (v : ℕ). v * 2 ^ 63) (sym (bit-zero (notW b)) ∙ bit-not b 0 h (omega arith) ∙ ap (λ (v : ℕ). 1 - v) (bit-zero b))
+opposite b h = top (notW b) ∙ ap (λ (v : ℕ). v * 2 ^ 63) (not-odd b h)
   where
     top : (w : ℕ) → shlW w 63 ≡ w % 2 * 2 ^ 63
     top w = omega arith

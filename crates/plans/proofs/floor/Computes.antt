@@ -5,11 +5,11 @@ use mathlib.Core.Path.{_≡_, refl, sym, ap, ap₂, _∙_}
 use mathlib.Core.Logic.{inl, inr}
 use mathlib.Core.Bool.{cond}
 use Prim.Native.Nat.{ℕ, _+_, _-_, _*_, _/_, _%_, _^_, _≤_, _<_, min}
-use native.Mathlib.Nat.{mul-zero, mul-one, mod-lt, mod-eq-of-lt, mod-one, div-one, lt-of-lt-of-le, eq-zero-or-pos}
+use native.Mathlib.Nat.{mul-zero, mul-one, mod-eq-of-lt, mod-one, div-one, lt-of-lt-of-le, eq-zero-or-pos}
 use native.Mathlib.Omega.{arith}
 use lib.Dec.{T, eqb}
 use lib.ListN.{getD}
-use lib.Pow.{pow-pos, pow-mono, ones-lt, mod-mod-pow}
+use lib.Pow.{pow-mono, ones-lt, mod-mod-pow}
 use Rattle.bits.specs.Ops.{xorW, andW, notW, shlW, shrW}
 use Rattle.bits.proofs.Digits.{digit}
 use Rattle.bits.proofs.Xor.{xor-zero, xor-zero-l, xor-comm}
@@ -24,7 +24,7 @@ use Rattle.plans.specs.Computes.{Computes}
 use Rattle.plans.specs.FloorPlan.{floorSteps, floorPlan}
 use Rattle.plans.proofs.Registers.{runSteps, tab}
 use Rattle.plans.proofs.Modelled.{wellFormed, plan-computes}
-use Rattle.plans.proofs.Fields.{low-bits}
+use Rattle.plans.proofs.Fields.{low-bits, low-lt}
 use Rattle.plans.proofs.Riding.{riders}
 use Rattle.plans.proofs.RunOfOnes.{stageAnd, nextF, nextN, runOf, orOf}
 use Rattle.plans.proofs.RoundUp.{oneOf, raisedWhere, roundedUp, opposite, stays, next-above, next-below}
@@ -90,7 +90,7 @@ module _ (x k e W U : ℕ) (hx : x < 2 ^ 64) (hk : k ≤ 63) (he : e < 2) (m : x
   floored : flooredTo x W U e ≡ roundedUp x W (x % 2 ^ k) (shrW U 62) (x % 2 ^ k) b
   unfolding flooredTo
   floored =
-      let s : x % 2 ^ k < 2 ^ 63 = lt-of-lt-of-le (mod-lt x (pow-pos k)) (pow-mono {i = k} {j = 63} hk) in
+      let s : x % 2 ^ k < 2 ^ 63 = low-lt x k 63 hk in
       ap (λ (g : ℕ). roundedUp x W (shrW (shlW g 1) 1) (shrW U 62) (shrW (shlW g 1) 1) (shrW g 63)) dropped-are
       ∙ ap₂ (λ (f n : ℕ). roundedUp x W f (shrW U 62) f n)
       (low-bits (b * 2 ^ 63 + x % 2 ^ k) 1 63 refl ∙ low b (x % 2 ^ k) s) (shr-is (b * 2 ^ 63 + x % 2 ^ k) 63 ∙ high b (x % 2 ^ k) s)
@@ -143,10 +143,9 @@ module _ (x : ℕ) (hx : x < 2 ^ 64) where
       let k : ℕ = 1075 - expo x in
       let W : ℕ = 2 ^ k - 1 in
       let hk : k ≤ 52 = omega arith in
-      let small : x % 2 ^ k < 2 ^ 63 = lt-of-lt-of-le (mod-lt x (pow-pos k)) (pow-mono {i = k} {j = 63} (omega arith)) in
       floored x k 0 W 0 hx (omega arith) (omega arith) (xor-zero W)
       ∙ ap₂ (λ (n b : ℕ). roundedUp x W (x % 2 ^ k) n (x % 2 ^ k) b) below-none (mul-one (sign x))
-      ∙ next-above x k (x % 2 ^ k) (sign x) hx hi hk small (omega arith)
+      ∙ next-above x k (x % 2 ^ k) (sign x) hx hi hk (low-lt x k 63 (omega arith)) (omega arith)
       ∙ ap (λ (s : ℕ). (x / 2 ^ k + s * min (x % 2 ^ k) 1) * 2 ^ k) (mod-eq-of-lt (omega arith)) ∙ sym (floor-word x lo hi hx)
 
   floor-above : 1075 ≤ expo x → flooredTo x 0 0 0 ≡ floor x

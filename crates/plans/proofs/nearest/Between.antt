@@ -1,7 +1,7 @@
 -- Nearest's plan where the decoder leaves a place, that of the first bit dropped: 1023 ≤ E ≤ 1074. Rests on Parts and RoundUp.
 use mathlib.Core.Path.{_≡_, refl, sym, ap, ap₂, _∙_}
 use Prim.Native.Nat.{ℕ, suc, _+_, _-_, _*_, _/_, _%_, _^_, _≤_, _<_, min}
-use native.Mathlib.Nat.{lt-of-lt-of-le, pow-suc, mod-lt, mod-eq-of-lt}
+use native.Mathlib.Nat.{pow-suc, mod-lt, mod-eq-of-lt}
 use native.Mathlib.Numerals.{one-add}
 use native.Mathlib.Omega.{arith}
 use lib.Pow.{pow-pos, pow-mono, pow-lt, mod-pow-add}
@@ -11,7 +11,7 @@ use Rattle.bits.proofs.Xor.{xor-zero, xor-comm, xor-cancel, and-comm}
 use Rattle.bits.proofs.Places.{and-low, shl-exact}
 use Rattle.bits.proofs.Sum.{xor-packed}
 use Rattle.binary64.specs.Number.{expo}
-use Rattle.plans.proofs.Fields.{low-bits, bit-mul-lt}
+use Rattle.plans.proofs.Fields.{low-bits, low-lt, bit-mul-lt}
 use Rattle.plans.proofs.RoundUp.{roundedUp, next-above}
 use Rattle.plans.proofs.decoder.Decoded.{fold}
 use Rattle.plans.proofs.nearest.Parts.{bitsOf, firstOf, othersOf, roundedTo, one-bit, fold-bit}
@@ -37,16 +37,10 @@ module _ (x j : ℕ) (hx : x < 2 ^ 64) (hj : j ≤ 51) where
   unfolding othersOf
   others =
       ap₂ xorW
-      (ap₂ xorW (low-bits (x % 2 ^ suc j) 12 52 refl ∙ mod-eq-of-lt small ∙ in-two) (one-bit x j) ∙ rest)
+      (ap₂ xorW (low-bits (x % 2 ^ suc j) 12 52 refl ∙ mod-eq-of-lt (low-lt x (suc j) 52 (omega arith)) ∙ in-two) (one-bit x j) ∙ rest)
       (ap (λ (v : ℕ). andW v x) next ∙ and-comm (2 ^ suc j) x ∙ one-bit x (suc j))
-      ∙ xor-comm (x % 2 ^ j) (l * 2 ^ suc j) ∙ xor-packed l (suc j) (x % 2 ^ j) low-lt
+      ∙ xor-comm (x % 2 ^ j) (l * 2 ^ suc j) ∙ xor-packed l (suc j) (x % 2 ^ j) (low-lt x j (suc j) (omega arith))
     where
-      low-lt : x % 2 ^ j < 2 ^ suc j
-      low-lt = lt-of-lt-of-le (mod-lt x (pow-pos j)) (pow-mono {i = j} {j = suc j} (omega arith))
-
-      small : x % 2 ^ suc j < 2 ^ 52
-      small = lt-of-lt-of-le (mod-lt x (pow-pos (suc j))) (pow-mono {i = suc j} {j = 52} (omega arith))
-
       in-two : x % 2 ^ suc j ≡ r * 2 ^ j + x % 2 ^ j
       in-two = ap (λ (k : ℕ). x % 2 ^ k) (sym (one-add j)) ∙ mod-pow-add x 1 j
 
@@ -64,7 +58,7 @@ module _ (x j : ℕ) (hx : x < 2 ^ 64) (hj : j ≤ 51) where
       let K : ℕ = 2 ^ suc j in
       let s : ℕ = x % 2 ^ j in
       let k52 : 2 ^ suc j ≤ 2 ^ 52 = pow-mono {i = suc j} {j = 52} (omega arith) in
-      let sl : s < K = lt-of-lt-of-le (mod-lt x (pow-pos j)) (pow-mono {i = j} {j = suc j} (omega arith)) in
+      let sl : s < K = low-lt x j (suc j) (omega arith) in
       let odd : r * W % 2 ≡ r = lowest-of r W (2 ^ j) (bit-lt (x / 2 ^ j)) (omega arith) (pow-pos j) in
       ap (λ (f : ℕ). roundedUp x W f 0 (othersOf x (2 ^ j) f) (firstOf x (2 ^ j) 0)) dropped-are
       ∙ ap₂ (roundedUp x W (x % K) 0) others first-place
