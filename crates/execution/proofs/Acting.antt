@@ -1,18 +1,17 @@
 -- A call over any plan, by its answer: what its parts ask for and what it leaves. The operation with a result slice of its own and the one in
--- place, whose result slice is the first operand, are proved by it. Rests on Answering.
+-- place, whose result slice is the first operand, are proved by it. Rests on Answering and Tape.
 use mathlib.Core.Path.{_≡_, ap, ap₂, _∙_}
-use mathlib.Core.List.{List, map}
-use Prim.Native.Nat.{ℕ, _≤_}
+use mathlib.Core.List.{List}
+use Prim.Native.Nat.{ℕ, _-_, _*_, _≤_}
 use native.Mathlib.Omega.{arith}
-use lib.ListN.{length, getD, replicate}
+use lib.ListN.{length, replicate}
 use borrow.Author.Tests.{eq-eqb, ne-eqb}
 use Rattle.checks.specs.declared.answer.Answer.{Answer}
-use Rattle.word.specs.Layout.{cell}
-use Rattle.masking.specs.Translation.{shares}
 use Rattle.masking.specs.Foretold.{Accepted, foretoldTape}
-use Rattle.execution.specs.Inner.{GoodPlan}
-use Rattle.execution.specs.Shares.{finished, resultShares, callAnswer, resultAfter, workAfter}
+use Rattle.execution.specs.Inner.{GoodPlan, TakesTape}
+use Rattle.execution.specs.Shares.{answerFor, finished, resultShares, callAnswer, resultAfter, workAfter, sharesOf}
 use Rattle.execution.proofs.Answering.{Ready, ready}
+use Rattle.execution.proofs.Tape.{by-units}
 
 module _ (plan x y result work tape : List ℕ) where
   -- a call's answer, and its result and work slices afterwards
@@ -20,7 +19,11 @@ module _ (plan x y result work tape : List ℕ) where
   Left r res wrk =
       (r ≡ callAnswer plan x y result work tape) × ((res ≡ resultAfter plan x y result work tape) × (wrk ≡ workAfter plan x y result work tape))
 
-  module _ (a : Answer) (e : a ≡ callAnswer plan x y result work tape) where
+  -- the call's tape words as units of n(n−1), and the answer by them
+  module _ (units : ℕ) (takes : TakesTape units plan) (a : Answer) (answered : a ≡ answerFor (units * (length x * (length x - 1))) (length x) (length y) (length result) (length work) (length tape)) where
+    e : a ≡ callAnswer plan x y result work tape
+    e = answered ∙ by-units units plan takes (length x) (length y) (length result) (length work) (length tape)
+
     pub turned-down : (a .number ≡ 0 → ⊥) → Left a result work
     turned-down h = (e, (rw (← e, ne-eqb _ 0 h), rw (← e, ne-eqb _ 0 h)))
 
@@ -32,12 +35,12 @@ module _ (plan x y result work tape : List ℕ) where
       to-finish G =
           (record { least = R .least; most = R .most; short = G .short; good = G .good }, omega (arith, R .others, R .most), R .works, R .enough)
 
-      pub to-copy-out : {cells : ℕ} → cells ≡ length work → (length result ≤ 8) × (cells ≡ 512)
-      to-copy-out l = (omega (arith, R .results, R .most), l ∙ R .works)
+      pub to-end : {cells : ℕ} → cells ≡ length work → (length result ≤ 8) × (cells ≡ 512)
+      to-end l = (omega (arith, R .results, R .most), l ∙ R .works)
 
-      pub acted : (cells res wrk : List ℕ) → length cells ≡ length work → cells ≡ finished plan (length x) x y tape
-          → res ≡ map (λ i. getD cells (cell i 2) 0) (shares (length result)) → wrk ≡ replicate (length cells) 0 → Left a res wrk
+      pub acted : {cells res wrk : List ℕ} → length cells ≡ length work → cells ≡ finished plan (length x) x y tape
+          → (res ≡ sharesOf (length result) 2 cells) × (wrk ≡ replicate (length cells) 0) → Left a res wrk
       unfolding resultShares
-      acted cells res wrk l f c w =
-          let shares-are = c ∙ ap₂ (λ (v : List ℕ) (m : ℕ). map (λ i. getD v (cell i 2) 0) (shares m)) f (R .results) in
-          (e, (rw (← e, eq-eqb _ 0 z) shares-are, rw (← e, eq-eqb _ 0 z) (w ∙ ap (λ (k : ℕ). replicate k 0) (l ∙ R .works))))
+      acted l f ended =
+          let shares-are = ended .0 ∙ ap₂ (λ (v : List ℕ) (m : ℕ). sharesOf m 2 v) f (R .results) in
+          (e, (rw (← e, eq-eqb _ 0 z) shares-are, rw (← e, eq-eqb _ 0 z) (ended .1 ∙ ap (λ (k : ℕ). replicate k 0) (l ∙ R .works))))

@@ -12,7 +12,7 @@ use Rattle.word.proofs.Small.{share-range}
 use Rattle.checks.proofs.Passed.{passed}
 use Rattle.checks.specs.Answers.{refused}
 use Rattle.masking.specs.Foretold.{foretoldTape}
-use Rattle.execution.specs.Shares.{operationAnswer}
+use Rattle.execution.specs.Shares.{answerFor, operationAnswer}
 
 both : (p q : Bool) → not (p && q) ≡ false → (p ≡ true) × (q ≡ true)
 both true true e = (refl, refl)
@@ -28,7 +28,7 @@ pub record Ready (plan : List ℕ) (n other result work tape : ℕ) : Type 0 whe
   pub enough : foretoldTape n plan ≤ tape
 
 pub ready : (plan : List ℕ) (n other result work tape : ℕ) (a : Answer) → a ≡ operationAnswer plan n other result work tape → a .number ≡ 0 → Ready plan n other result work tape
-unfolding operationAnswer
+unfolding answerFor
 ready plan n other result work tape a e z =
     let p₁ = passed (not (isShareCount n)) (refused 1) _ (λ h. omega arith) (sym (ap (λ (x : Answer). x .number) e) ∙ z) in
     let p₄ = passed (not (eqb other n && (eqb result n && eqb work 512))) (refused 4) _ (λ h. omega arith) (p₁ .1) in

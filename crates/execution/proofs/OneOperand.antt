@@ -10,7 +10,7 @@ use Rattle.checks.specs.Answers.{refused, afterCall}
 use Rattle.word.specs.Layout.{isShareCount}
 use Rattle.word.proofs.Small.{share-range}
 use Rattle.masking.proofs.emitted.Counts.{by-count}
-use Rattle.execution.specs.Shares.{operationAnswer, callAnswer, zerosFor}
+use Rattle.execution.specs.Shares.{answerFor, callAnswer, zerosFor}
 use Rattle.execution.proofs.Acting.{Left}
 
 zeros-same : (n : ℕ) → 2 ≤ n → n ≤ 8 → take (min n 8) (replicate {A = ℕ} 8 0) ≡ replicate n 0
@@ -22,7 +22,7 @@ module _ (plan x result work tape : List ℕ) where
   Given y r res wrk = Left plan x y result work tape r res wrk
 
   down : isShareCount (length x) ≡ false → (y : List ℕ) → callAnswer plan x y result work tape ≡ refused 1
-  unfolding operationAnswer
+  unfolding answerFor
   down f y = rw f
 
   unchanged : isShareCount (length x) ≡ false → (y after before : List ℕ) → afterCall (callAnswer plan x y result work tape) after before ≡ before

@@ -23,6 +23,7 @@ use Rattle.masking.proofs.InARow.{each-run, steps-append}
 use Rattle.execution.specs.Shares.{placed, finished}
 use Rattle.execution.specs.WholeRun.{WholeRun, RunsWhole}
 use Rattle.execution.specs.Inner.{GoodPlan}
+use Rattle.gadgets.specs.Effects.{Enough, Ran}
 use Rattle.blocks.specs.PlanWords.{GoodPlanWord, IsGood}
 use Rattle.execution.proofs.Filling.{placed-size}
 
@@ -73,6 +74,14 @@ module _ (n : ℕ) (plan x y tape : List ℕ) (A : Accepted n plan) where
   finished-is h =
       ap (λ (a : Answer). afterCall a (exec (due P 0 (length P)) tape (placed x y)) (placed x y)) (whole-run .done h)
       ∙ ap (λ (p : List ℕ). exec p tape (placed x y)) all
+
+  -- the same of the plan's words done on the cells: they need no more tape than is foretold, and leave what is defined
+  module _ (h : foretoldTape n plan ≤ length tape) where
+    pub enough-tape : Enough tape 0 (stepsOf P)
+    enough-tape = omega (arith, plan-counts n plan A .tape)
+
+    pub finished-by : {begun cells : List ℕ} {next : ℕ} → begun ≡ placed x y → Ran (stepsOf P) tape 0 begun cells next → cells ≡ finished plan n x y tape
+    finished-by e r = r .cells ∙ ap (exec P tape) e ∙ sym (finished-is h)
 
 pub runs-whole : (plan : List ℕ) → GoodPlan plan → RunsWhole plan
 runs-whole plan G n l m x y tape = whole-run n plan x y tape (record { least = l; most = m; short = G .short; good = G .good })

@@ -13,13 +13,17 @@ use Rattle.masking.specs.Translation.{shares, program}
 use Rattle.masking.specs.Foretold.{foretoldTape}
 use Rattle.masking.specs.Runs.{standing, runAnswer, runCells}
 
--- the answer, by lengths: 1 "share count not 2..8", 4 "a slice of wrong length", 6 "tape too short"
-unfoldable pub operationAnswer : List ℕ → ℕ → ℕ → ℕ → ℕ → ℕ → Answer
-operationAnswer plan n other result work tape =
+-- the answer, by lengths, where `needed` tape words are needed: 1 "share count not 2..8", 4 "a slice of wrong length", 6 "tape too short"
+unfoldable pub answerFor : ℕ → ℕ → ℕ → ℕ → ℕ → ℕ → Answer
+answerFor needed n other result work tape =
     given (not (isShareCount n)) (refused 1)
     (given (not (eqb other n && (eqb result n && eqb work 512))) (refused 4)
-    (given (ltb tape (foretoldTape n plan)) (refused 6)
-    (done 0 (foretoldTape n plan))))
+    (given (ltb tape needed) (refused 6)
+    (done 0 needed)))
+
+-- of a call over a plan, which needs what is foretold
+abbrev pub operationAnswer : List ℕ → ℕ → ℕ → ℕ → ℕ → ℕ → Answer
+operationAnswer plan n other result work tape = answerFor (foretoldTape n plan) n other result work tape
 
 -- shares into register r, from share i on
 abbrev pub placedIn : ℕ → ℕ → List ℕ → List ℕ → List ℕ
@@ -37,9 +41,13 @@ wholeRun plan n x y tape = runAnswer (program n plan) tape (standing (placed x y
 unfoldable pub finished : List ℕ → ℕ → List ℕ → List ℕ → List ℕ → List ℕ
 finished plan n x y tape = runCells (program n plan) tape (standing (placed x y) 0 0) (length (program n plan))
 
+-- the n shares of register r
+abbrev pub sharesOf : ℕ → ℕ → List ℕ → List ℕ
+sharesOf n r cells = map (λ i. getD cells (cell i r) 0) (shares n)
+
 -- the result's shares: register 2
 unfoldable pub resultShares : List ℕ → ℕ → List ℕ → List ℕ → List ℕ → List ℕ
-resultShares plan n x y tape = map (λ i. getD (finished plan n x y tape) (cell i 2) 0) (shares n)
+resultShares plan n x y tape = sharesOf n 2 (finished plan n x y tape)
 
 -- A call on lent slices, by its plan: the answer, the result afterwards, and the work slice afterwards. Each operation is an instance. So is
 -- each call in place, which document 01 does not have: there x is the result slice too, and `resultAfter` says what it holds afterwards.

@@ -1,11 +1,8 @@
 // The work slice: cleared, operands placed, the result copied out.
 ghost use mathlib.Core.Path.{_≡_};
-ghost use mathlib.Core.List.{map};
 ghost use Prim.Native.Nat.{_≤_, _<_};
-ghost use lib.ListN.{getD, length, replicate};
-ghost use Rattle.word.specs.Layout.{cell};
-ghost use Rattle.masking.specs.Translation.{shares};
-ghost use Rattle.execution.specs.Shares.{placedIn};
+ghost use lib.ListN.{length, replicate};
+ghost use Rattle.execution.specs.Shares.{placedIn, sharesOf};
 use word::step_word::StepWord;
 
 fn zeros(cells: &mut [u64])
@@ -18,7 +15,7 @@ fn zeros(cells: &mut [u64])
     }
 }
 
-// Words cleared at a time. A longer run of zeros would be left to the C library, which stores it byte by byte.
+// Words cleared at a time. The C library stores a longer run of zeros byte by byte.
 const PART: usize = 64;
 
 // Where a part that begins at `at` ends.
@@ -33,7 +30,7 @@ fn part_end(at: usize, length: usize) -> usize
     }
 }
 
-pub(crate) fn clear(cells: &mut [u64])
+fn clear_by_parts(cells: &mut [u64])
     ensures { λ _. ⌜ now (cells .exit) ≡ replicate (length (now (cells .entry))) 0 ⌝ }
 {
     let mut at = 0;
@@ -42,6 +39,16 @@ pub(crate) fn clear(cells: &mut [u64])
         zeros(&mut cells[at..end]);
         at = end;
     }
+}
+
+// The cells up to `cut`, and those from it on: of parts of a length that the compiler knows it would make one run.
+pub(crate) fn clear(cells: &mut [u64], cut: usize)
+    requires { ⌜ cut ≤ length (now cells) ⌝ }
+    ensures { λ _. ⌜ now (cells .exit) ≡ replicate (length (now (cells .entry))) 0 ⌝ }
+{
+    let all = cells.len();
+    clear_by_parts(&mut cells[0..cut]);
+    clear_by_parts(&mut cells[cut..all]);
 }
 
 // An operand's shares into register r.
@@ -59,7 +66,7 @@ pub(crate) fn place(r: usize, x: &[u64], cells: &mut [u64])
 // The shares of register 2.
 pub(crate) fn copy_out(cells: &[u64], result: &mut [u64])
     requires { ⌜ (length (now result) ≤ 8) × (length (now cells) ≡ 512) ⌝ }
-    ensures { λ _. ⌜ now (result .exit) ≡ map (λ i. getD (now (cells .entry)) (cell i 2) 0) (shares (length (now (result .entry)))) ⌝ }
+    ensures { λ _. ⌜ now (result .exit) ≡ sharesOf (length (now (result .entry))) 2 (now (cells .entry)) ⌝ }
 {
     let mut i = 0;
     while i < result.len() {

@@ -20,7 +20,7 @@ pub fn product(x: &mut [u64], y: &[u64], work: &mut [u64], tape: &[u64]) -> Answ
     ensures holds { λ _. ⌜ Masked ⌝ }
 {
     let plan = plans::product_table::words();
-    operation_in_place(&plan, x, y, work, tape)
+    operation_in_place(&plan, plans::product_table::TAPE_UNITS, x, y, work, tape)
 }
 
 // The sum of shared operands x and y, likewise.
@@ -31,7 +31,7 @@ pub fn sum(x: &mut [u64], y: &[u64], work: &mut [u64], tape: &[u64]) -> Answer
     ensures holds { λ _. ⌜ Masked ⌝ }
 {
     let plan = plans::sum_table::words();
-    operation_in_place(&plan, x, y, work, tape)
+    operation_in_place(&plan, plans::sum_table::TAPE_UNITS, x, y, work, tape)
 }
 
 // The floor of a shared operand x, likewise.
@@ -42,7 +42,7 @@ pub fn floor(x: &mut [u64], work: &mut [u64], tape: &[u64]) -> Answer
     ensures holds { λ _. ⌜ Masked ⌝ }
 {
     let plan = plans::floor_table::words();
-    operation_of_one_in_place(&plan, x, work, tape)
+    operation_of_one_in_place(&plan, plans::floor_table::TAPE_UNITS, x, work, tape)
 }
 
 // The truncation of a shared operand x, likewise.
@@ -53,7 +53,7 @@ pub fn truncate(x: &mut [u64], work: &mut [u64], tape: &[u64]) -> Answer
     ensures holds { λ _. ⌜ Masked ⌝ }
 {
     let plan = plans::truncate_table::words();
-    operation_of_one_in_place(&plan, x, work, tape)
+    operation_of_one_in_place(&plan, plans::truncate_table::TAPE_UNITS, x, work, tape)
 }
 
 // The whole number nearest to a shared operand x, likewise.
@@ -64,5 +64,5 @@ pub fn nearest(x: &mut [u64], work: &mut [u64], tape: &[u64]) -> Answer
     ensures holds { λ _. ⌜ Masked ⌝ }
 {
     let plan = plans::nearest_table::words();
-    operation_of_one_in_place(&plan, x, work, tape)
+    operation_of_one_in_place(&plan, plans::nearest_table::TAPE_UNITS, x, work, tape)
 }

@@ -23,7 +23,15 @@ pub fn product(x: &[u64], y: &[u64], result: &mut [u64], work: &mut [u64], tape:
     ensures holds { λ _. ⌜ Masked ⌝ }
 {
     let plan = plans::product_table::words();
-    operation(&plan, x, y, result, work, tape)
+    operation(
+        &plan,
+        plans::product_table::TAPE_UNITS,
+        x,
+        y,
+        result,
+        work,
+        tape,
+    )
 }
 
 // The sum of shared operands x and y, likewise.
@@ -34,7 +42,15 @@ pub fn sum(x: &[u64], y: &[u64], result: &mut [u64], work: &mut [u64], tape: &[u
     ensures holds { λ _. ⌜ Masked ⌝ }
 {
     let plan = plans::sum_table::words();
-    operation(&plan, x, y, result, work, tape)
+    operation(
+        &plan,
+        plans::sum_table::TAPE_UNITS,
+        x,
+        y,
+        result,
+        work,
+        tape,
+    )
 }
 
 // The floor of a shared operand x, likewise.
@@ -45,7 +61,7 @@ pub fn floor(x: &[u64], result: &mut [u64], work: &mut [u64], tape: &[u64]) -> A
     ensures holds { λ _. ⌜ Masked ⌝ }
 {
     let plan = plans::floor_table::words();
-    operation_of_one(&plan, x, result, work, tape)
+    operation_of_one(&plan, plans::floor_table::TAPE_UNITS, x, result, work, tape)
 }
 
 // The truncation of a shared operand x, likewise.
@@ -56,7 +72,14 @@ pub fn truncate(x: &[u64], result: &mut [u64], work: &mut [u64], tape: &[u64]) -
     ensures holds { λ _. ⌜ Masked ⌝ }
 {
     let plan = plans::truncate_table::words();
-    operation_of_one(&plan, x, result, work, tape)
+    operation_of_one(
+        &plan,
+        plans::truncate_table::TAPE_UNITS,
+        x,
+        result,
+        work,
+        tape,
+    )
 }
 
 // The whole number nearest to a shared operand x, likewise.
@@ -67,5 +90,12 @@ pub fn nearest(x: &[u64], result: &mut [u64], work: &mut [u64], tape: &[u64]) ->
     ensures holds { λ _. ⌜ Masked ⌝ }
 {
     let plan = plans::nearest_table::words();
-    operation_of_one(&plan, x, result, work, tape)
+    operation_of_one(
+        &plan,
+        plans::nearest_table::TAPE_UNITS,
+        x,
+        result,
+        work,
+        tape,
+    )
 }

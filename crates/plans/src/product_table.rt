@@ -815,6 +815,9 @@ const PRODUCT: [u32; 810] = [
     0x20080411,
 ];
 
+// Tape words on n shares, as units of n(n-1).
+pub const TAPE_UNITS: usize = 89;
+
 // The whole table.
 pub fn words() -> [u32; 810]
     ensures { λ r. ⌜ r ≡ productPlan ⌝ }

@@ -1,7 +1,7 @@
 -- `execution::in_place::operation_in_place` meets its contract.
 use denote.Ref.{now}
 use borrow.Author.Needs.{needs}
-use Rattle.execution.proofs.Acting.{to-finish, to-copy-out, acted, turned-down}
+use Rattle.execution.proofs.Acting.{to-finish, to-end, acted, turned-down}
 use Rattle.execution.proofs.in_place.operation_in_place.Statement.{statement}
 use Rattle.execution.proofs.in_place.operation_in_place.Tie as tie
 
@@ -9,30 +9,34 @@ finish-requires : tie.Need-finish-requires
 finish-requires c κs =
     let t = c .before .before in
     let a = t .before .before in
-    let g = a .before .before .before .before .before .before .args in
-    to-finish (now (g .plan)) (now (g .x)) (now (g .y)) (now (g .x)) (now (g .work)) (now (g .tape)) (a .operation-answer .result) (a .operation-answer .ensures) (t .if1 .taken) (a .before .before .before .before .before .before .pre)
+    let s = a .before .before .before .before .before .before in
+    let g = s .args in
+    to-finish (now (g .plan)) (now (g .x)) (now (g .y)) (now (g .x)) (now (g .work)) (now (g .tape)) (g .units) (s .pre .1) (a .operation-answer .result) (a .operation-answer .ensures) (t .if1 .taken) (s .pre .0)
 
-copy-out-requires : tie.Need-copy-out-requires
-copy-out-requires c κs =
+end-requires : tie.Need-end-requires
+end-requires c κs =
     let f = c .before .before .before .before in
     let t = f .before .before .before in
     let a = t .before .before in
-    let g = a .before .before .before .before .before .before .args in
-    to-copy-out (now (g .plan)) (now (g .x)) (now (g .y)) (now (g .x)) (now (g .work)) (now (g .tape)) (a .operation-answer .result) (a .operation-answer .ensures) (t .if1 .taken) (f .finish .kept .1 .1 .1 .1 .0)
+    let s = a .before .before .before .before .before .before in
+    let g = s .args in
+    to-end (now (g .plan)) (now (g .x)) (now (g .y)) (now (g .x)) (now (g .work)) (now (g .tape)) (g .units) (s .pre .1) (a .operation-answer .result) (a .operation-answer .ensures) (t .if1 .taken) (f .finish .kept .1 .1 .1 .1 .0)
 
 returns : tie.Need-returns
 returns c =
-    let f = c .before .before .before .before .before .before .before .before .before .before .before in
+    let f = c .before .before .before .before .before .before .before .before .before in
     let t = f .before .before .before in
     let a = t .before .before in
-    let g = a .before .before .before .before .before .before .args in
-    acted (now (g .plan)) (now (g .x)) (now (g .y)) (now (g .x)) (now (g .work)) (now (g .tape)) (a .operation-answer .result) (a .operation-answer .ensures) (t .if1 .taken) _ _ _ (f .finish .kept .1 .1 .1 .1 .0) (f .finish .ensures) (c .before .before .before .before .before .before .copy-out .ensures) (c .before .before .clear .ensures)
+    let s = a .before .before .before .before .before .before in
+    let g = s .args in
+    acted (now (g .plan)) (now (g .x)) (now (g .y)) (now (g .x)) (now (g .work)) (now (g .tape)) (g .units) (s .pre .1) (a .operation-answer .result) (a .operation-answer .ensures) (t .if1 .taken) (f .finish .kept .1 .1 .1 .1 .0) (f .finish .ensures) (c .before .before .before .before .end .ensures)
 
 returns-2 : tie.Need-returns-2
 returns-2 c =
     let a = c .before .before in
-    let g = a .before .before .before .before .before .before .args in
-    turned-down (now (g .plan)) (now (g .x)) (now (g .y)) (now (g .x)) (now (g .work)) (now (g .tape)) (a .operation-answer .result) (a .operation-answer .ensures) (c .if1 .left)
+    let s = a .before .before .before .before .before .before in
+    let g = s .args in
+    turned-down (now (g .plan)) (now (g .x)) (now (g .y)) (now (g .x)) (now (g .work)) (now (g .tape)) (g .units) (s .pre .1) (a .operation-answer .result) (a .operation-answer .ensures) (c .if1 .left)
 
 pub operation-in-place-spec : {M : Type 1} → statement M
 operation-in-place-spec =
@@ -40,8 +44,7 @@ operation-in-place-spec =
     (tie.spec
     (λ c κs. search needs)
     finish-requires
-    copy-out-requires
-    (λ c κs. search needs)
+    end-requires
     (λ c. search needs)
     (λ c. search needs)
     returns
