@@ -19,6 +19,7 @@ use Rattle.binary64.proofs.IeeeWhole as ieee-whole
 use Rattle.binary64.proofs.Corners as at-corners
 use Rattle.binary64.proofs.Edges.{edges-hold, rounding-edges-hold}
 use Rattle.plans.proofs.BuiltIns as plans
+use Rattle.plans.proofs.product.Words as product
 use Rattle.operations.proofs.Masked as operations
 use Rattle.splitting.proofs.SplitJoin as splitting
 use Rattle.listing.proofs.Whole as listing
@@ -52,6 +53,7 @@ claims =
       edges = edges-hold;
       rounding-edges = rounding-edges-hold;
       built-ins = plans.built-ins;
+      product-by-rows = product.by-rows;
       masked = operations.masked;
       split-joins = splitting.split-joins;
       pieces-are-listing = listing.pieces-are-listing;

@@ -37,7 +37,7 @@ use Rattle.binary64.specs.Ieee.{exactSum, roundToIntegral, towardNegative, towa
 use Rattle.binary64.specs.Meaning.{Rounded, GreatestWhole, WholePart, NearestWhole}
 use Rattle.binary64.specs.Edges.{edges, roundingEdges}
 use Rattle.binary64.specs.Operations.{Product, Sum, Floor, Truncate, Nearest}
-use Rattle.plans.specs.ProductPlan.{productPlan}
+use Rattle.plans.specs.ProductPlan.{productPlan, productWord, tableWords}
 use Rattle.plans.specs.SumPlan.{sumPlan}
 use Rattle.plans.specs.FloorPlan.{floorPlan}
 use Rattle.plans.specs.TruncatePlan.{truncatePlan}
@@ -184,6 +184,13 @@ module _ (C : Claims) where
 
   nearest-plan : Computes nearestPlan (λ a b. nearest a)
   nearest-plan = C .built-ins Nearest .computes
+
+  -- the product's words from the number of a row
+  product-word : (i : ℕ) → i < 810 → getD productPlan i 0 ≡ productWord i
+  product-word = C .product-by-rows .words
+
+  product-tables : tableWords + 256 ≤ length productPlan
+  product-tables = C .product-by-rows .fewer
 
   -- the tape words of the roundings
   floor-tape : (n : ℕ) → 2 ≤ n → n ≤ 8 → foretoldTape n floorPlan ≤ 12 * (n * (n - 1))

@@ -18,6 +18,7 @@ use Rattle.binary64.specs.Ieee.{ProductIsIeee, SumIsIeee, FloorIsIeee, Truncate
 use Rattle.binary64.specs.Corners.{Corners}
 use Rattle.binary64.specs.Edges.{EdgesHold, RoundingEdgesHold}
 use Rattle.plans.specs.BuiltIns.{BuiltIns}
+use Rattle.plans.specs.ProductPlan.{ByRows}
 use Rattle.operations.specs.Masked.{Masked}
 use Rattle.splitting.specs.SplitJoin.{SplitJoins}
 use Rattle.listing.specs.Sharelist.{ExampleListed}
@@ -52,8 +53,9 @@ pub record Claims : Type 0 where
   pub corners : Corners
   pub edges : EdgesHold
   pub rounding-edges : RoundingEdgesHold
-  -- the built-in plans, the operations on shares, split and join
+  -- the built-in plans, the product's from the number of a row; the operations on shares, split and join
   pub built-ins : BuiltIns
+  pub product-by-rows : ByRows
   pub masked : Masked
   pub split-joins : SplitJoins
   -- the listing in the pieces that `list_piece` writes, and document 01's example of it

@@ -7,9 +7,13 @@ ghost use Rattle.plans.specs.TruncatePlan.{truncatePlan};
 ghost use Rattle.plans.specs.NearestPlan.{nearestPlan};
 ghost use Rattle.operations.specs.Masked.{Masked};
 ghost use Rattle.execution.specs.Shares.{callAnswer, resultAfter, workAfter, zerosFor};
+use crate::by_rows::finish;
 use checks::answer::Answer;
 use execution::in_place::operation_in_place;
 use execution::one_operand::operation_of_one_in_place;
+use execution::operation::end;
+use execution::operation::operation_answer;
+use plans::product_rows::TAPE_UNITS;
 
 // The product of shared operands x and y: its shares in x. Turned down with 1 where the shares are not 2 to 8, 4 where y or `work` has the wrong
 // length, 6 where the tape is too short; all is then as it was. `work` has 512 words, zeros afterwards. What holds of it is `Masked`.
@@ -19,8 +23,19 @@ pub fn product(x: &mut [u64], y: &[u64], work: &mut [u64], tape: &[u64]) -> Answ
     ensures work { λ _. ⌜ now (work .exit) ≡ workAfter productPlan (now (x .entry)) (now (y .entry)) (now (x .entry)) (now (work .entry)) (now (tape .entry)) ⌝ }
     ensures holds { λ _. ⌜ Masked ⌝ }
 {
-    let plan = plans::product_table::words();
-    operation_in_place(&plan, plans::product_table::TAPE_UNITS, x, y, work, tape)
+    let answer = operation_answer(
+        TAPE_UNITS,
+        x.len(),
+        y.len(),
+        x.len(),
+        work.len(),
+        tape.len(),
+    );
+    if answer.number == 0 {
+        finish(x, y, tape, work);
+        end(work, x);
+    }
+    answer
 }
 
 // The sum of shared operands x and y, likewise.

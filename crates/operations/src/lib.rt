@@ -8,10 +8,15 @@ ghost use Rattle.plans.specs.TruncatePlan.{truncatePlan};
 ghost use Rattle.plans.specs.NearestPlan.{nearestPlan};
 ghost use Rattle.operations.specs.Masked.{Masked};
 ghost use Rattle.execution.specs.Shares.{callAnswer, resultAfter, workAfter, zerosFor};
+use crate::by_rows::finish;
 use checks::answer::Answer;
 use execution::one_operand::operation_of_one;
+use execution::operation::end;
 use execution::operation::operation;
+use execution::operation::operation_answer;
+use plans::product_rows::TAPE_UNITS;
 
+mod by_rows;
 pub mod in_place;
 
 // The product of shared operands x and y: its shares in `result`. Turned down with 1 where the shares are not 2 to 8, 4 where a slice has the
@@ -22,16 +27,19 @@ pub fn product(x: &[u64], y: &[u64], result: &mut [u64], work: &mut [u64], tape:
     ensures work { λ _. ⌜ now (work .exit) ≡ workAfter productPlan (now (x .entry)) (now (y .entry)) (now (result .entry)) (now (work .entry)) (now (tape .entry)) ⌝ }
     ensures holds { λ _. ⌜ Masked ⌝ }
 {
-    let plan = plans::product_table::words();
-    operation(
-        &plan,
-        plans::product_table::TAPE_UNITS,
-        x,
-        y,
-        result,
-        work,
-        tape,
-    )
+    let answer = operation_answer(
+        TAPE_UNITS,
+        x.len(),
+        y.len(),
+        result.len(),
+        work.len(),
+        tape.len(),
+    );
+    if answer.number == 0 {
+        finish(x, y, tape, work);
+        end(work, result);
+    }
+    answer
 }
 
 // The sum of shared operands x and y, likewise.

@@ -11,3 +11,4 @@ pub mod Choose
 pub mod Bits
 pub mod Last
 pub mod Computes
+pub mod Words

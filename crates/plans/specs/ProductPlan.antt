@@ -3,8 +3,12 @@
 -- Registers: 0 x, 1 y, 2 the result, 3 m_x, 4 its complement n_x, 5 and 6 a sum S + C in carry-save form, 7 the low bits `low`, 10 an addend,
 -- 11 the number 1, 12 the high half R with the exponents, 13 the normalised bits N, 14 the sticky bits K, 15 the tests Z, 16 the packed result B;
 -- 8, 9, 17 and 18 hold intermediate words. A significand m is 2^52 + F, for E = 0 too.
+use mathlib.Core.Path.{_≡_}
+use mathlib.Core.Bool.{cond}
 use mathlib.Core.List.{List, [], _∷_, _++_, map}
-use Prim.Native.Nat.{ℕ, zero, suc}
+use Prim.Native.Nat.{ℕ, zero, suc, _+_, _-_, _/_, _%_, _≤_, _<_}
+use lib.Dec.{ltb, eqb}
+use lib.ListN.{length, getD}
 use Rattle.word.specs.declared.step.Step.{Step}
 use Rattle.word.specs.declared.step.Step.the-variants.{Const, Xor, And, Not, Shl, Shr, Spread, Add}
 use Rattle.word.specs.Encoding.{wordOf}
@@ -82,3 +86,35 @@ productSteps = productHead ++ (productRows 52 ++ productTail)
 -- the words
 unfoldable pub productPlan : List ℕ
 productPlan = map wordOf productSteps
+
+-- ---- the words from the number of a row, for each bit of F_y: document 02, No. 3, "make the product's words from the number of a row, nearly the same for each bit of one
+-- operand; tables left for it hold at least 256 words fewer than the plan". The tables: a head, row 0, and a tail.
+unfoldable pub headWords : List ℕ
+headWords = map wordOf productHead
+
+unfoldable pub rowWords : ℕ → List ℕ
+rowWords q = map wordOf (productRow q)
+
+-- rows 0 to n - 1
+abbrev pub rowsWords : ℕ → List ℕ
+rowsWords n = map wordOf (productRows n)
+
+unfoldable pub tailWords : List ℕ
+tailWords = map wordOf productTail
+
+-- word k of row q is that of row 0; the first one's shift number is q
+abbrev pub rowWord : ℕ → ℕ → ℕ
+rowWord q k = getD (rowWords 0) k 0 + cond (eqb k 0) q 0
+
+-- word i of the plan: 20 words of the head, 52 rows of 13, and the tail
+abbrev pub productWord : ℕ → ℕ
+productWord i = cond (ltb i 20) (getD headWords i 0) (cond (ltb i 696) (rowWord ((i - 20) / 13) ((i - 20) % 13)) (getD tailWords (i - 696) 0))
+
+-- words of the three tables
+abbrev pub tableWords : ℕ
+tableWords = length headWords + length (rowWords 0) + length tailWords
+
+pub record ByRows : Type 0 where
+  pub words : (i : ℕ) → i < 810 → getD productPlan i 0 ≡ productWord i
+  pub tables : tableWords ≡ 147
+  pub fewer : tableWords + 256 ≤ length productPlan

@@ -1,0 +1,45 @@
+// The product's plan on the cells, by its rows: no more of its words stand together than a head, a row and a tail.
+ghost use mathlib.Core.Path.{_≡_};
+ghost use Prim.Native.Nat.{_≤_};
+ghost use lib.ListN.{length};
+ghost use Rattle.masking.specs.Foretold.{Accepted, foretoldTape};
+ghost use Rattle.masking.specs.Machine.{stepsOf};
+ghost use Rattle.masking.specs.Translation.{program};
+ghost use Rattle.gadgets.specs.Effects.{Enough, Ran};
+ghost use Rattle.plans.specs.ProductPlan.{productPlan, rowsWords};
+ghost use Rattle.execution.specs.Shares.{finished};
+use execution::operation::begin;
+use execution::operation::run;
+use plans::product_rows::ROWS;
+use plans::product_rows::head;
+use plans::product_rows::row;
+use plans::product_rows::tail;
+
+// The rows in order, from place `start` of the tape on; the answer is the next place.
+fn rows(n: usize, tape: &[u64], start: usize, cells: &mut [u64]) -> usize
+    requires { ⌜ (2 ≤ n) × (n ≤ 8) × (length (now cells) ≡ 512) ⌝ }
+    requires { ⌜ Enough (now tape) start (stepsOf (program n (rowsWords 52))) ⌝ }
+    ensures { λ r. ⌜ Ran (stepsOf (program n (rowsWords 52))) (now (tape .entry)) start (now (cells .entry)) (now (cells .exit)) r ⌝ }
+{
+    let mut t = start;
+    let mut q = 0;
+    while q < ROWS {
+        let words = row(q);
+        t = run(&words, n, tape, t, cells);
+        q += 1;
+    }
+    t
+}
+
+// Zeros with the operands placed, and the plan's words on them.
+pub(crate) fn finish(x: &[u64], y: &[u64], tape: &[u64], work: &mut [u64])
+    requires { ⌜ Accepted (length (now x)) productPlan × (length (now y) ≤ 8) × (length (now work) ≡ 512) × (foretoldTape (length (now x)) productPlan ≤ length (now tape)) ⌝ }
+    ensures { λ _. ⌜ now (work .exit) ≡ finished productPlan (length (now (x .entry))) (now (x .entry)) (now (y .entry)) (now (tape .entry)) ⌝ }
+{
+    let first = head();
+    let last = tail();
+    begin(x, y, work);
+    let t = run(&first, x.len(), tape, 0, work);
+    let t = rows(x.len(), tape, t, work);
+    run(&last, x.len(), tape, t, work);
+}
