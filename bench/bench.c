@@ -1,11 +1,12 @@
 /* The bench. `bench check` compares the library with the baselines, `bench time` prints nanoseconds for each case, `bench count`, run
- * under callgrind, leaves a dump of instruction counts for each case, and `bench sizes` prints the plans' sizes; `bench/run` puts them side
- * by side. A case's name is "what|n|side", its unit an operation, a share word, or a translated word. */
+ * under callgrind, leaves a dump of instruction counts for each case, `bench sizes` prints the plans' sizes and `bench stack` the stack that
+ * calls take; `bench/run` puts them side by side. A case's name is "what|n|side", its unit an operation, a share word, or a translated word. */
 #include <stdbool.h>
 #include <stdio.h>
 #include <stdlib.h>
 #include <string.h>
 #include <time.h>
+#include <ucontext.h>
 #include <valgrind/callgrind.h>
 
 #include "baseline.h"
@@ -282,6 +283,44 @@ static void sizes(void) {
         }
 }
 
+/* The stack that a call takes on 8 shares, and that of a plan's copy: each runs on a painted stack, less what a call of nothing takes. */
+enum { PAINTED = 65536, PAINT = 0xA5 };
+static unsigned char painted[PAINTED] __attribute__((aligned(64)));
+static ucontext_t here, there;
+static const operation *at;
+static bool copied;
+
+static void nothing(void) {}
+
+static void call(void) {
+    if (copied) at->copy(program, PROGRAM);
+    else at->on_shares();
+}
+
+static size_t stack_of(void (*run)(void)) {
+    memset(painted, PAINT, PAINTED);
+    getcontext(&there);
+    there.uc_stack.ss_sp = painted;
+    there.uc_stack.ss_size = PAINTED;
+    there.uc_link = &here;
+    makecontext(&there, run, 0);
+    swapcontext(&here, &there);
+    size_t left = 0;
+    while (painted[left] == PAINT) left++;
+    return PAINTED - left;
+}
+
+static void stack(void) {
+    set_up(8);
+    for (int form = 0; form < 2; form++) {
+        copied = form == 1;
+        for (at = operations; at < operations + OPERATIONS; at++) {
+            stack_of(call); /* the first call of memset looks its symbol up */
+            printf("stack|%s|%s|%zu\n", at->name, copied ? "plan copy" : "on shares", stack_of(call) - stack_of(nothing));
+        }
+    }
+}
+
 int main(int argc, char **argv) {
     const char *mode = argc == 2 ? argv[1] : "";
     for (operation *op = operations; op < operations + OPERATIONS; op++) op->plan_len = op->copy(op->plan, PLAN).words;
@@ -289,8 +328,9 @@ int main(int argc, char **argv) {
     else if (strcmp(mode, "time") == 0) each_case(time_case);
     else if (strcmp(mode, "count") == 0) each_case(count_case);
     else if (strcmp(mode, "sizes") == 0) sizes();
+    else if (strcmp(mode, "stack") == 0) stack();
     else {
-        fprintf(stderr, "usage: bench check | time | count | sizes\n");
+        fprintf(stderr, "usage: bench check | time | count | sizes | stack\n");
         return 2;
     }
     return 0;

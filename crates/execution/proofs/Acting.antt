@@ -1,5 +1,5 @@
 -- A call over any plan, by its answer: what its parts ask for and what it leaves. The operation with a result slice of its own and the one in
--- place, whose result slice is the first operand, are proved by it. Rests on Answering and Tape.
+-- place, whose result slice is the first operand, are proved by it. So are both forms of the product (`operations`). Rests on Plans, Answering and Tape.
 use mathlib.Core.Path.{_≡_, ap, ap₂, _∙_}
 use mathlib.Core.List.{List}
 use Prim.Native.Nat.{ℕ, _-_, _*_, _≤_}
@@ -10,6 +10,7 @@ use Rattle.checks.specs.declared.answer.Answer.{Answer}
 use Rattle.masking.specs.Foretold.{Accepted, foretoldTape}
 use Rattle.execution.specs.Inner.{GoodPlan, TakesTape}
 use Rattle.execution.specs.Shares.{answerFor, finished, resultShares, callAnswer, resultAfter, workAfter, sharesOf}
+use Rattle.execution.proofs.Plans.{accepted}
 use Rattle.execution.proofs.Answering.{Ready, ready}
 use Rattle.execution.proofs.Tape.{by-units}
 
@@ -33,7 +34,7 @@ module _ (plan x y result work tape : List ℕ) where
 
       pub to-finish : GoodPlan plan → Accepted (length x) plan × (length y ≤ 8) × (length work ≡ 512) × (foretoldTape (length x) plan ≤ length tape)
       to-finish G =
-          (record { least = R .least; most = R .most; short = G .short; good = G .good }, omega (arith, R .others, R .most), R .works, R .enough)
+          (accepted G (R .least) (R .most), omega (arith, R .others, R .most), R .works, R .enough)
 
       pub to-end : {cells : ℕ} → cells ≡ length work → (length result ≤ 8) × (cells ≡ 512)
       to-end l = (omega (arith, R .results, R .most), l ∙ R .works)

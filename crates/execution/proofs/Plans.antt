@@ -42,6 +42,10 @@ plan-word plan e i h = by (planStep (getD plan i 0)) (first-bad planStep plan .g
     by (Good s) q = tt
     by Bad q = let z : _≡_ {A = ℕ} 0 1 = cc (q .1) in absurd (omega arith)
 
+-- a good plan is accepted for each share count
+pub accepted : {n : ℕ} {plan : List ℕ} → GoodPlan plan → 2 ≤ n → n ≤ 8 → Accepted n plan
+accepted G least most = record { least = least; most = most; short = G .short; good = G .good }
+
 -- the share run over the whole program
 module _ (n : ℕ) (plan x y tape : List ℕ) (A : Accepted n plan) where
   abbrev P : List ℕ
@@ -84,4 +88,4 @@ module _ (n : ℕ) (plan x y tape : List ℕ) (A : Accepted n plan) where
     finished-by e r = r .cells ∙ ap (exec P tape) e ∙ sym (finished-is h)
 
 pub runs-whole : (plan : List ℕ) → GoodPlan plan → RunsWhole plan
-runs-whole plan G n l m x y tape = whole-run n plan x y tape (record { least = l; most = m; short = G .short; good = G .good })
+runs-whole plan G n l m x y tape = whole-run n plan x y tape (accepted G l m)

@@ -73,7 +73,7 @@ pub fn begin(x: &[u64], y: &[u64], work: &mut [u64])
     place(1, y, work);
 }
 
-// The plan's words on them.
+// Zeros with the operands placed, and the plan's words on them.
 pub(crate) fn finish(plan: &[u32], x: &[u64], y: &[u64], tape: &[u64], work: &mut [u64])
     requires { ⌜ Accepted (length (now x)) (now plan) × (length (now y) ≤ 8) × (length (now work) ≡ 512) × (foretoldTape (length (now x)) (now plan) ≤ length (now tape)) ⌝ }
     ensures { λ _. ⌜ now (work .exit) ≡ finished (now (plan .entry)) (length (now (x .entry))) (now (x .entry)) (now (y .entry)) (now (tape .entry)) ⌝ }

@@ -41,7 +41,7 @@ fn clear_by_parts(cells: &mut [u64])
     }
 }
 
-// The cells up to `cut`, and those from it on: of parts of a length that the compiler knows it would make one run.
+// All cells, in two pieces that meet at `cut`, a place known only at run time: of a length that it knows the compiler makes one run.
 pub(crate) fn clear(cells: &mut [u64], cut: usize)
     requires { ⌜ cut ≤ length (now cells) ⌝ }
     ensures { λ _. ⌜ now (cells .exit) ≡ replicate (length (now (cells .entry))) 0 ⌝ }

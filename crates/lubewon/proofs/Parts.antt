@@ -33,7 +33,7 @@ use Rattle.binary64.specs.Corners.{Corners}
 use Rattle.plans.specs.Computes.{Computes}
 use Rattle.plans.specs.Cost.{Cost, Figures}
 use Rattle.plans.specs.BuiltIns.{BuiltIn}
-use Rattle.plans.specs.ProductPlan.{ByRows}
+use Rattle.plans.specs.ProductRows.{ByRows}
 use Rattle.operations.specs.Masked.{Operand, StepSecret, OnShares}
 use Rattle.execution.specs.WholeRun.{WholeRun}
 use Rattle.splitting.specs.SplitJoin.{SplitJoins}
@@ -134,7 +134,7 @@ built-in : {o : Operation} → BuiltIn o → BuiltIn o
 built-in h = record { computes = h .computes; cost = h .cost; figures = h .figures }
 
 by-rows : ByRows → ByRows
-by-rows h = record { words = h .words; tables = h .tables; fewer = h .fewer }
+by-rows h = record { parts = h .parts; rows = h .rows; words = h .words; tables = h .tables; fewer = h .fewer }
 
 operand : {n : ℕ} {x : List ℕ} → Operand n x → Operand n x
 operand h = record { size = h .size; words = h .words }

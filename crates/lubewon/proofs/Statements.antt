@@ -37,7 +37,8 @@ use Rattle.binary64.specs.Ieee.{exactSum, roundToIntegral, towardNegative, towa
 use Rattle.binary64.specs.Meaning.{Rounded, GreatestWhole, WholePart, NearestWhole}
 use Rattle.binary64.specs.Edges.{edges, roundingEdges}
 use Rattle.binary64.specs.Operations.{Product, Sum, Floor, Truncate, Nearest}
-use Rattle.plans.specs.ProductPlan.{productPlan, productWord, tableWords}
+use Rattle.plans.specs.ProductPlan.{productPlan}
+use Rattle.plans.specs.ProductRows.{productWord, tableWords}
 use Rattle.plans.specs.SumPlan.{sumPlan}
 use Rattle.plans.specs.FloorPlan.{floorPlan}
 use Rattle.plans.specs.TruncatePlan.{truncatePlan}
@@ -186,7 +187,7 @@ module _ (C : Claims) where
   nearest-plan = C .built-ins Nearest .computes
 
   -- the product's words from the number of a row
-  product-word : (i : ℕ) → i < 810 → getD productPlan i 0 ≡ productWord i
+  product-word : (i : ℕ) → i < length productPlan → getD productPlan i 0 ≡ productWord i
   product-word = C .product-by-rows .words
 
   product-tables : tableWords + 256 ≤ length productPlan

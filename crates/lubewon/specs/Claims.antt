@@ -18,7 +18,7 @@ use Rattle.binary64.specs.Ieee.{ProductIsIeee, SumIsIeee, FloorIsIeee, Truncate
 use Rattle.binary64.specs.Corners.{Corners}
 use Rattle.binary64.specs.Edges.{EdgesHold, RoundingEdgesHold}
 use Rattle.plans.specs.BuiltIns.{BuiltIns}
-use Rattle.plans.specs.ProductPlan.{ByRows}
+use Rattle.plans.specs.ProductRows.{ByRows}
 use Rattle.operations.specs.Masked.{Masked}
 use Rattle.splitting.specs.SplitJoin.{SplitJoins}
 use Rattle.listing.specs.Sharelist.{ExampleListed}

@@ -1,5 +1,5 @@
 -- All that is proved of the operations on shares: one record over any plan that computes an operation, at each built-in plan.
-use mathlib.Core.Path.{_≡_, sym, subst}
+use mathlib.Core.Path.{_≡_, refl, sym, subst}
 use mathlib.Core.List.{List}
 use Prim.Native.Nat.{ℕ, _+_, _*_, _≤_}
 use native.Mathlib.Omega.{arith}
@@ -7,6 +7,7 @@ use Rattle.word.specs.Layout.{planMax}
 use Rattle.binary64.specs.Operations.{Operation, Product, Sum, Floor, Truncate, Nearest, onWords}
 use Rattle.plans.specs.Computes.{Computes}
 use Rattle.plans.specs.BuiltIns.{described, planOf}
+use Rattle.plans.specs.ProductPlan.{productPlan}
 use Rattle.plans.proofs.BuiltIns.{built-ins}
 use Rattle.operations.specs.Masked.{OnShares, Masked}
 use Rattle.execution.specs.Inner.{GoodPlan, TakesTape}
@@ -47,6 +48,10 @@ pub good-words : (o : Operation) {words : List ℕ} → words ≡ planOf o → G
 good-words o e =
     subst (λ (words : List ℕ). GoodPlan words × TakesTape (units o) words) (sym e)
     (good (built-ins o .computes), record { most = units-most o; tape = built-ins o .figures .tape-is })
+
+-- of the product's plan, whose words stand nowhere as a whole
+pub product-good : GoodPlan productPlan × TakesTape 89 productPlan
+product-good = good-words Product refl
 
 -- what a call leaves, and with it what is proved of every operation
 pub with-masked : {A B C : Type 0} → A × (B × C) → A × (B × (C × Masked))

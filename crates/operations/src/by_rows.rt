@@ -1,4 +1,4 @@
-// The product's plan on the cells, by its rows: no more of its words stand together than a head, a row and a tail.
+// The product's plan on the cells in parts, a head, the rows one by one, and a tail: the whole of it stands nowhere.
 ghost use mathlib.Core.Path.{_≡_};
 ghost use Prim.Native.Nat.{_≤_};
 ghost use lib.ListN.{length};
@@ -6,7 +6,8 @@ ghost use Rattle.masking.specs.Foretold.{Accepted, foretoldTape};
 ghost use Rattle.masking.specs.Machine.{stepsOf};
 ghost use Rattle.masking.specs.Translation.{program};
 ghost use Rattle.gadgets.specs.Effects.{Enough, Ran};
-ghost use Rattle.plans.specs.ProductPlan.{productPlan, rowsWords};
+ghost use Rattle.plans.specs.ProductPlan.{productPlan, rowCount};
+ghost use Rattle.plans.specs.ProductRows.{wordsOfRows};
 ghost use Rattle.execution.specs.Shares.{finished};
 use execution::operation::begin;
 use execution::operation::run;
@@ -18,8 +19,8 @@ use plans::product_rows::tail;
 // The rows in order, from place `start` of the tape on; the answer is the next place.
 fn rows(n: usize, tape: &[u64], start: usize, cells: &mut [u64]) -> usize
     requires { ⌜ (2 ≤ n) × (n ≤ 8) × (length (now cells) ≡ 512) ⌝ }
-    requires { ⌜ Enough (now tape) start (stepsOf (program n (rowsWords 52))) ⌝ }
-    ensures { λ r. ⌜ Ran (stepsOf (program n (rowsWords 52))) (now (tape .entry)) start (now (cells .entry)) (now (cells .exit)) r ⌝ }
+    requires { ⌜ Enough (now tape) start (stepsOf (program n (wordsOfRows rowCount))) ⌝ }
+    ensures { λ r. ⌜ Ran (stepsOf (program n (wordsOfRows rowCount))) (now (tape .entry)) start (now (cells .entry)) (now (cells .exit)) r ⌝ }
 {
     let mut t = start;
     let mut q = 0;

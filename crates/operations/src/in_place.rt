@@ -13,7 +13,6 @@ use execution::in_place::operation_in_place;
 use execution::one_operand::operation_of_one_in_place;
 use execution::operation::end;
 use execution::operation::operation_answer;
-use plans::product_rows::TAPE_UNITS;
 
 // The product of shared operands x and y: its shares in x. Turned down with 1 where the shares are not 2 to 8, 4 where y or `work` has the wrong
 // length, 6 where the tape is too short; all is then as it was. `work` has 512 words, zeros afterwards. What holds of it is `Masked`.
@@ -24,7 +23,7 @@ pub fn product(x: &mut [u64], y: &[u64], work: &mut [u64], tape: &[u64]) -> Answ
     ensures holds { λ _. ⌜ Masked ⌝ }
 {
     let answer = operation_answer(
-        TAPE_UNITS,
+        plans::product_rows::TAPE_UNITS,
         x.len(),
         y.len(),
         x.len(),

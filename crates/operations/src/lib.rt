@@ -1,5 +1,5 @@
-// The operations on shares: one call over the words of each plan. The contracts cite the definitions of `execution`, and what holds
-// of them in `specs/`.
+// The operations on shares: one call over the words of each plan; the product's, which has rows, in parts. The contracts cite the
+// definitions of `execution`, and what holds of them in `specs/`.
 ghost use mathlib.Core.Path.{_≡_};
 ghost use Rattle.plans.specs.ProductPlan.{productPlan};
 ghost use Rattle.plans.specs.SumPlan.{sumPlan};
@@ -14,7 +14,6 @@ use execution::one_operand::operation_of_one;
 use execution::operation::end;
 use execution::operation::operation;
 use execution::operation::operation_answer;
-use plans::product_rows::TAPE_UNITS;
 
 mod by_rows;
 pub mod in_place;
@@ -28,7 +27,7 @@ pub fn product(x: &[u64], y: &[u64], result: &mut [u64], work: &mut [u64], tape:
     ensures holds { λ _. ⌜ Masked ⌝ }
 {
     let answer = operation_answer(
-        TAPE_UNITS,
+        plans::product_rows::TAPE_UNITS,
         x.len(),
         y.len(),
         result.len(),

@@ -1,5 +1,5 @@
 -- What holds of a built-in plan (Computes); the plans as steps, with runs of steps that plans share (Segments), the decoder of the exponent that the roundings to a whole
--- number share (Decoder), a run of ones found (RunOfOnes), one added by it (RoundUp); what they cost (Cost), what is proved of each (BuiltIns), and the calls that copy
+-- number share (Decoder), a run of ones found (RunOfOnes), one added by it (RoundUp); the product's words from the number of a row (ProductRows); what they cost (Cost), what is proved of each (BuiltIns), and the calls that copy
 -- them out (Copy).
 pub mod Computes
 pub mod Segments
@@ -7,6 +7,7 @@ pub mod Decoder
 pub mod RunOfOnes
 pub mod RoundUp
 pub mod ProductPlan
+pub mod ProductRows
 pub mod SumPlan
 pub mod FloorPlan
 pub mod TruncatePlan

@@ -1,14 +1,11 @@
--- The product's plan: document 01, "Each built-in plan is a constant table of at most 2,048 words, .., with operands in registers 0 and 1
--- and the result in 2. Its words are the team's choice". What is to be believed of it is only what is proved: it computes `product`.
+-- The product's plan: document 01, "Each built-in plan is .. at most 2,048 words, .., with operands in registers 0 and 1 and the result in 2. Its words are the
+-- team's choice". What is to be believed of it is only what is proved: it computes `product`. It is no constant table, by document 02, No. 3: a head, a row for each bit of F_y, made from the
+-- number of that bit (ProductRows has the words so), and a tail.
 -- Registers: 0 x, 1 y, 2 the result, 3 m_x, 4 its complement n_x, 5 and 6 a sum S + C in carry-save form, 7 the low bits `low`, 10 an addend,
 -- 11 the number 1, 12 the high half R with the exponents, 13 the normalised bits N, 14 the sticky bits K, 15 the tests Z, 16 the packed result B;
 -- 8, 9, 17 and 18 hold intermediate words. A significand m is 2^52 + F, for E = 0 too.
-use mathlib.Core.Path.{_≡_}
-use mathlib.Core.Bool.{cond}
 use mathlib.Core.List.{List, [], _∷_, _++_, map}
-use Prim.Native.Nat.{ℕ, zero, suc, _+_, _-_, _/_, _%_, _≤_, _<_}
-use lib.Dec.{ltb, eqb}
-use lib.ListN.{length, getD}
+use Prim.Native.Nat.{ℕ, zero, suc}
 use Rattle.word.specs.declared.step.Step.{Step}
 use Rattle.word.specs.declared.step.Step.the-variants.{Const, Xor, And, Not, Shl, Shr, Spread, Add}
 use Rattle.word.specs.Encoding.{wordOf}
@@ -28,21 +25,25 @@ carryRow a = Xor 8 5 6 ∷ Xor 9 5 a ∷ And 9 8 9 ∷ Xor 6 5 9 ∷ Xor 5 8 a �
 unfoldable pub productRow : ℕ → List Step
 productRow i = Shr 10 1 i ∷ Spread 10 10 ∷ Shr 10 10 10 ∷ Xor 10 10 4 ∷ carryRow 10
 
+-- a row for each bit of F_y
+abbrev pub rowCount : ℕ
+rowCount = 52
+
 -- rows 0 to n - 1
 unfoldable pub productRows : ℕ → List Step
 productRows zero = []
 productRows (suc n) = productRows n ++ productRow n
 
--- row 53 adds F_x; the exponents ride along above bit 53 of S and C
+-- the last two additions are of other words, so that they stand in the tail. The second adds F_x; the exponents ride along from bit 53 of S and C on
 unfoldable pub withExponents : List Step
 withExponents =
     Shl 17 0 1 ∷ Shr 17 17 53 ∷ Shl 17 17 53 ∷ Xor 5 5 17 ∷ Shl 17 1 1 ∷ Shr 17 17 53 ∷ Shl 17 17 53 ∷ Xor 6 6 17 ∷ Shl 10 0 12 ∷ Shr 10 10 12 ∷ []
 
--- row 52 adds m_x, then row 53; R = (E_x + E_y) · 2^52 + (p >> 53) and low = (p mod 2^53) · 2^11 for p = m_x · m_y
+-- the first of the two adds m_x, then the second; R = (E_x + E_y) · 2^52 + (p >> 53) and low = (p mod 2^53) · 2^11 for p = m_x · m_y
 unfoldable pub highHalf : List Step
 highHalf = carryRow 3 ++ (withExponents ++ (carryRow 10 ++ (Add 12 5 6 ∷ [])))
 
--- p is brought to its top bit by at most one place: N has the 64 bits after the top bit
+-- p is brought to its top bit by at most one place: N has the bits after the top bit, from bit 63 down; its lowest is 0 where p < 2^105, and the next bit of p is then seen in low
 unfoldable pub normalise : List Step
 normalise =
     Xor 17 0 1 ∷ Xor 17 17 12 ∷ Shr 18 17 52 ∷ Spread 18 18 ∷ Shl 13 12 12 ∷ Shr 17 7 52 ∷ Xor 13 13 17 ∷ Shl 8 13 1 ∷ Xor 13 13 8 ∷ And 13 13 18
@@ -81,40 +82,8 @@ unfoldable pub productTail : List Step
 productTail = highHalf ++ productEnd
 
 unfoldable pub productSteps : List Step
-productSteps = productHead ++ (productRows 52 ++ productTail)
+productSteps = productHead ++ (productRows rowCount ++ productTail)
 
 -- the words
 unfoldable pub productPlan : List ℕ
 productPlan = map wordOf productSteps
-
--- ---- the words from the number of a row, for each bit of F_y: document 02, No. 3, "make the product's words from the number of a row, nearly the same for each bit of one
--- operand; tables left for it hold at least 256 words fewer than the plan". The tables: a head, row 0, and a tail.
-unfoldable pub headWords : List ℕ
-headWords = map wordOf productHead
-
-unfoldable pub rowWords : ℕ → List ℕ
-rowWords q = map wordOf (productRow q)
-
--- rows 0 to n - 1
-abbrev pub rowsWords : ℕ → List ℕ
-rowsWords n = map wordOf (productRows n)
-
-unfoldable pub tailWords : List ℕ
-tailWords = map wordOf productTail
-
--- word k of row q is that of row 0; the first one's shift number is q
-abbrev pub rowWord : ℕ → ℕ → ℕ
-rowWord q k = getD (rowWords 0) k 0 + cond (eqb k 0) q 0
-
--- word i of the plan: 20 words of the head, 52 rows of 13, and the tail
-abbrev pub productWord : ℕ → ℕ
-productWord i = cond (ltb i 20) (getD headWords i 0) (cond (ltb i 696) (rowWord ((i - 20) / 13) ((i - 20) % 13)) (getD tailWords (i - 696) 0))
-
--- words of the three tables
-abbrev pub tableWords : ℕ
-tableWords = length headWords + length (rowWords 0) + length tailWords
-
-pub record ByRows : Type 0 where
-  pub words : (i : ℕ) → i < 810 → getD productPlan i 0 ≡ productWord i
-  pub tables : tableWords ≡ 147
-  pub fewer : tableWords + 256 ≤ length productPlan

@@ -1,8 +1,9 @@
-// The words of the product's plan: a head, a row for each bit of one operand, made from its number, and a tail.
+// The words of the product's plan, from the number of a row: a head, a row for each of the 52 fraction bits of y, and a tail.
 ghost use mathlib.Core.Path.{_≡_};
 ghost use Prim.Native.Nat.{_<_};
-ghost use lib.ListN.{getD};
-ghost use Rattle.plans.specs.ProductPlan.{headWords, productPlan, rowWords, tailWords};
+ghost use lib.ListN.{length};
+ghost use Rattle.plans.specs.ProductPlan.{productPlan, rowCount};
+ghost use Rattle.plans.specs.ProductRows.{headWords, productWord, rowWords, tailWords};
 
 const HEAD: [u32; 20] = [
     0x102C0001,
@@ -27,7 +28,7 @@ const HEAD: [u32; 20] = [
     0x101C0000,
 ];
 
-// Row 0. The others differ from it in the shift number of the first word, which is the row's.
+// Row 0. The others differ from it in the shift number of the first word, which is the number of the row.
 const ROW: [u32; 13] = [
     0x60280200,
     0x70281400,
@@ -163,20 +164,28 @@ const TAIL: [u32; 114] = [
 
 pub const ROWS: u32 = 52;
 
-pub const WORDS: usize = 810;
+// Where the head ends, a row's words, where the rows end, and where the plan does.
+const HEAD_END: usize = 20;
+
+const ROW_WORDS: usize = 13;
+
+const ROWS_END: usize = HEAD_END + ROWS as usize * ROW_WORDS;
+
+pub(crate) const WORDS: usize = ROWS_END + 114;
 
 // Tape words on n shares, as units of n(n-1).
 pub const TAPE_UNITS: usize = 89;
 
+// The words before the rows.
 pub fn head() -> [u32; 20]
     ensures { λ r. ⌜ r ≡ headWords ⌝ }
 {
     HEAD
 }
 
-// Row q.
+// The words of row q.
 pub fn row(q: u32) -> [u32; 13]
-    requires { ⌜ q < 52 ⌝ }
+    requires { ⌜ q < rowCount ⌝ }
     ensures { λ r. ⌜ r ≡ rowWords q ⌝ }
 {
     let mut words = ROW;
@@ -184,23 +193,17 @@ pub fn row(q: u32) -> [u32; 13]
     words
 }
 
+// The words after the rows.
 pub fn tail() -> [u32; 114]
     ensures { λ r. ⌜ r ≡ tailWords ⌝ }
 {
     TAIL
 }
 
-// Where the head ends, a row's words, and where the rows end.
-const HEAD_END: usize = 20;
-
-const ROW_WORDS: usize = 13;
-
-const ROWS_END: usize = 696;
-
 // Word i of the plan.
-pub fn word(i: usize) -> u32
-    requires { ⌜ i < 810 ⌝ }
-    ensures { λ r. ⌜ r ≡ getD productPlan i 0 ⌝ }
+pub(crate) fn word(i: usize) -> u32
+    requires { ⌜ i < length productPlan ⌝ }
+    ensures { λ r. ⌜ r ≡ productWord i ⌝ }
 {
     if i < HEAD_END {
         let words = head();

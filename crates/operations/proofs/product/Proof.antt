@@ -1,27 +1,21 @@
 -- `operations::product` meets its contract.
-use mathlib.Core.Path.{refl}
 use denote.Ref.{now}
 use borrow.Author.Needs.{needs}
-use Rattle.binary64.specs.Operations.{Product}
 use Rattle.plans.specs.ProductPlan.{productPlan}
-use Rattle.execution.specs.Inner.{GoodPlan, TakesTape}
 use Rattle.execution.proofs.Acting.{to-finish, to-end, acted, turned-down}
-use Rattle.operations.proofs.Masked.{good-words, with-masked}
+use Rattle.operations.proofs.Masked.{product-good, with-masked}
 use Rattle.operations.proofs.product.Statement.{statement}
 use Rattle.operations.proofs.product.Tie as tie
 
-good : GoodPlan productPlan × TakesTape 89 productPlan
-good = good-words Product refl
-
 operation-answer-requires : tie.Need-operation-answer-requires
-operation-answer-requires c κs = good .1 .most
+operation-answer-requires c κs = product-good .1 .most
 
 finish-requires : tie.Need-finish-requires
 finish-requires c κs =
     let t = c .before in
     let a = t .before .before in
     let g = a .before .before .before .before .before .before .args in
-    to-finish productPlan (now (g .x)) (now (g .y)) (now (g .result)) (now (g .work)) (now (g .tape)) 89 (good .1) (a .operation-answer .result) (a .operation-answer .ensures) (t .if1 .taken) (good .0)
+    to-finish productPlan (now (g .x)) (now (g .y)) (now (g .result)) (now (g .work)) (now (g .tape)) _ (product-good .1) (a .operation-answer .result) (a .operation-answer .ensures) (t .if1 .taken) (product-good .0)
 
 end-requires : tie.Need-end-requires
 end-requires c κs =
@@ -29,7 +23,7 @@ end-requires c κs =
     let t = f .before .before in
     let a = t .before .before in
     let g = a .before .before .before .before .before .before .args in
-    to-end productPlan (now (g .x)) (now (g .y)) (now (g .result)) (now (g .work)) (now (g .tape)) 89 (good .1) (a .operation-answer .result) (a .operation-answer .ensures) (t .if1 .taken) (f .finish .kept .1 .1 .1 .0)
+    to-end productPlan (now (g .x)) (now (g .y)) (now (g .result)) (now (g .work)) (now (g .tape)) _ (product-good .1) (a .operation-answer .result) (a .operation-answer .ensures) (t .if1 .taken) (f .finish .kept .1 .1 .1 .0)
 
 returns : tie.Need-returns
 returns c =
@@ -37,13 +31,13 @@ returns c =
     let t = f .before .before in
     let a = t .before .before in
     let g = a .before .before .before .before .before .before .args in
-    with-masked (acted productPlan (now (g .x)) (now (g .y)) (now (g .result)) (now (g .work)) (now (g .tape)) 89 (good .1) (a .operation-answer .result) (a .operation-answer .ensures) (t .if1 .taken) (f .finish .kept .1 .1 .1 .0) (f .finish .ensures) (c .before .before .before .before .end .ensures))
+    with-masked (acted productPlan (now (g .x)) (now (g .y)) (now (g .result)) (now (g .work)) (now (g .tape)) _ (product-good .1) (a .operation-answer .result) (a .operation-answer .ensures) (t .if1 .taken) (f .finish .kept .1 .1 .1 .0) (f .finish .ensures) (c .before .before .before .before .end .ensures))
 
 returns-2 : tie.Need-returns-2
 returns-2 c =
     let a = c .before .before in
     let g = a .before .before .before .before .before .before .args in
-    with-masked (turned-down productPlan (now (g .x)) (now (g .y)) (now (g .result)) (now (g .work)) (now (g .tape)) 89 (good .1) (a .operation-answer .result) (a .operation-answer .ensures) (c .if1 .left))
+    with-masked (turned-down productPlan (now (g .x)) (now (g .y)) (now (g .result)) (now (g .work)) (now (g .tape)) _ (product-good .1) (a .operation-answer .result) (a .operation-answer .ensures) (c .if1 .left))
 
 pub product-spec : {M : Type 1} → statement M
 product-spec =

@@ -6,7 +6,7 @@ use borrow.Author.Needs.{needs}
 use Rattle.plans.specs.ProductPlan.{productPlan}
 use Rattle.plans.proofs.product.Words.{head-sound, tail-sound}
 use Rattle.execution.proofs.Plans.{enough-tape, finished-by}
-use Rattle.operations.proofs.ByRows.{head-enough, rows-enough, tail-enough, all-done, accepted}
+use Rattle.operations.proofs.ByRows.{head-enough, rows-enough, tail-enough, all-done, part-accepted}
 use Rattle.operations.proofs.by_rows.finish.Statement.{statement}
 use Rattle.operations.proofs.by_rows.finish.Tie as tie
 
@@ -18,7 +18,7 @@ run-requires c κs =
     let tape = now (s .args .tape) in
     let e = enough-tape n productPlan x (now (s .args .y)) tape (s .pre .0) (s .pre .3) in
     let h = c .before .before .before .before .before .before .before .head .ensures in
-    ((rw h (accepted (s .pre .0 .least) (s .pre .0 .most) head-sound), search needs), rw h (head-enough n tape [] e))
+    ((rw h (part-accepted (s .pre .0 .least) (s .pre .0 .most) head-sound), search needs), rw h (head-enough n tape [] e))
 
 rows-requires : tie.Need-rows-requires
 rows-requires c κs =
@@ -39,7 +39,7 @@ run-requires-2 c κs =
     let e = enough-tape n productPlan x (now (s .args .y)) tape (s .pre .0) (s .pre .3) in
     let first = rw (c .before .before .before .before .before .before .before .before .before .before .before .before .before .before .before .before .head .ensures) at (c .before .before .before .before .before .before .before .before .run .ensures) in
     let h = c .before .before .before .before .before .before .before .before .before .before .before .before .before .before .before .tail .ensures in
-    ((rw h (accepted (s .pre .0 .least) (s .pre .0 .most) tail-sound), search needs), rw h (tail-enough n tape _ e first (c .before .before .before .before .rows .ensures)))
+    ((rw h (part-accepted (s .pre .0 .least) (s .pre .0 .most) tail-sound), search needs), rw h (tail-enough n tape _ e first (c .before .before .before .before .rows .ensures)))
 
 returns : tie.Need-returns
 returns c =

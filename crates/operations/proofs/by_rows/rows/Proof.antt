@@ -3,21 +3,21 @@ use mathlib.Core.Path.{_≡_, refl, _∙_}
 use Prim.Native.Nat.{_-_, _≤_}
 use native.Mathlib.Nat.{le-antisymm}
 use native.Mathlib.Omega.{arith}
-use denote.Ref.{now}
 use lib.ListN.{length}
 use borrow.Author.Needs.{needs}
 use Rattle.gadgets.specs.Effects.{Ran}
-use Rattle.plans.specs.ProductPlan.{rowsWords}
+use Rattle.plans.specs.ProductRows.{wordsOfRows}
+use Rattle.plans.specs.ProductPlan.{rowCount}
 use Rattle.plans.proofs.product.Words.{row-sound}
-use Rattle.operations.proofs.ByRows.{steps, no-row, next-row, row-enough, accepted}
+use Rattle.operations.proofs.ByRows.{steps, no-row, next-row, row-enough, part-accepted}
 use Rattle.operations.proofs.by_rows.rows.Statement.{statement}
 use Rattle.operations.proofs.by_rows.rows.Tie as tie
 
 abbrev Inv-loop : tie.InvT-loop
-Inv-loop n tape start cells₀ t₀ q₀ cells t q = (q ≤ 52) × (length cells ≡ length cells₀) × Ran (steps n (rowsWords q)) tape start cells₀ cells t
+Inv-loop n tape start cells₀ t₀ q₀ cells t q = (q ≤ rowCount) × (length cells ≡ length cells₀) × Ran (steps n (wordsOfRows q)) tape start cells₀ cells t
 
 abbrev μ-loop : tie.MeasureT-loop
-μ-loop n tape start cells₀ t₀ q₀ cells t q = 52 - q
+μ-loop n tape start cells₀ t₀ q₀ cells t q = rowCount - q
 
 loop-holds : tie.Need-loop-holds Inv-loop μ-loop
 loop-holds c = (omega arith, refl, no-row (c .before .before .args .n))
@@ -29,7 +29,7 @@ run-requires c κs =
     let n = s .args .n in
     let sound = row-sound (l .loop .q) (omega arith) in
     let e = c .before .before .row .ensures in
-    ((rw e (accepted (s .pre .0 .0) (s .pre .0 .1) sound), l .loop .inv .1 ∙ s .pre .0 .2), rw e (row-enough n (l .loop .q) (l .loop .inv .2) (omega arith) (s .pre .1)))
+    ((rw e (part-accepted (s .pre .0 .0) (s .pre .0 .1) sound), l .loop .inv .1 ∙ s .pre .0 .2), rw e (row-enough n (l .loop .q) (l .loop .inv .2) (omega arith) (s .pre .1)))
 
 loop-again : tie.Need-loop-again Inv-loop μ-loop
 loop-again c =
@@ -39,7 +39,7 @@ loop-again c =
 
 returns : tie.Need-returns Inv-loop μ-loop
 returns c =
-    let all : c .before .loop .q ≡ 52 = le-antisymm (c .before .loop .inv .0) (c .loop-test .left) in
+    let all : c .before .loop .q ≡ rowCount = le-antisymm (c .before .loop .inv .0) (c .loop-test .left) in
     rw all at (c .before .loop .inv .2)
 
 pub rows-spec : {M : Type 1} → statement M

@@ -1,7 +1,8 @@
 -- `plans::product_rows::head` meets its contract: the table is the head's words, by computation.
 use mathlib.Core.Path.{refl}
 use Rattle.word.specs.Encoding.{put}
-use Rattle.plans.specs.ProductPlan.{headWords, productHead}
+use Rattle.plans.specs.ProductPlan.{productHead}
+use Rattle.plans.specs.ProductRows.{headWords}
 use Rattle.plans.proofs.product_rows.head.Statement.{statement}
 use Rattle.plans.proofs.product_rows.head.Tie as tie
 

@@ -1,18 +1,17 @@
--- `plans::product_rows::row` meets its contract: the table is row 0, and the number of a row is the shift number of its first word.
-use mathlib.Core.Path.{ap}
-use mathlib.Core.List.{_∷_}
-use Prim.Native.Nat.{ℕ}
-use lib.ListN.{drop}
+-- `plans::product_rows::row` meets its contract: the table is row 0, and the number of a row is added to the first word.
+use mathlib.Core.Path.{sym}
 use native.Mathlib.Omega.{arith}
 use borrow.Author.Needs.{needs}
 use Rattle.word.specs.Encoding.{put}
-use Rattle.plans.specs.ProductPlan.{rowWords, productRow, carryRow}
+use Rattle.plans.specs.ProductPlan.{productRow, carryRow}
+use Rattle.plans.specs.ProductRows.{rowWords}
+use Rattle.plans.proofs.product.Words.{by-rows}
 use Rattle.plans.proofs.product_rows.row.Statement.{statement}
 use Rattle.plans.proofs.product_rows.row.Tie as tie
 
 returns : tie.Need-returns
 unfolding rowWords productRow carryRow put
-returns c = ap (λ (w : ℕ). w ∷ drop 1 (rowWords 0)) (omega (arith, c .pre))
+returns c = sym (by-rows .rows (c .args .q) (c .pre))
 
 pub row-spec : {M : Type 1} → statement M
 row-spec = tie.close (tie.spec

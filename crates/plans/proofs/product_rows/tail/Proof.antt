@@ -1,7 +1,8 @@
 -- `plans::product_rows::tail` meets its contract: the table is the tail's words, by computation.
 use mathlib.Core.Path.{refl}
 use Rattle.word.specs.Encoding.{put}
-use Rattle.plans.specs.ProductPlan.{tailWords, carryRow, withExponents, highHalf, normalise, sticky, tests, roundPack, choose, productEnd, productTail}
+use Rattle.plans.specs.ProductPlan.{carryRow, withExponents, highHalf, normalise, sticky, tests, roundPack, choose, productEnd, productTail}
+use Rattle.plans.specs.ProductRows.{tailWords}
 use Rattle.plans.proofs.product_rows.tail.Statement.{statement}
 use Rattle.plans.proofs.product_rows.tail.Tie as tie
 

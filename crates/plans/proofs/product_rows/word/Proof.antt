@@ -1,6 +1,7 @@
--- `plans::product_rows::word` meets its contract: a word of the head, of a row or of the tail is the plan's (product/Words).
+-- `plans::product_rows::word` meets its contract: by the part that the word stands in (product/Words).
+use native.Mathlib.Omega.{arith}
 use borrow.Author.Needs.{needs}
-use Rattle.plans.proofs.product.Words.{from-head, from-row, from-tail}
+use Rattle.plans.proofs.product.Words.{plan-size, from-head, from-row, from-tail}
 use Rattle.plans.proofs.product_rows.word.Statement.{statement}
 use Rattle.plans.proofs.product_rows.word.Tie as tie
 
@@ -11,7 +12,7 @@ returns-2 : tie.Need-returns-2
 returns-2 c = rw (c .row .ensures) (from-row (c .before .before .before .args .i) (c .before .before .if1 .left) (c .before .if2 .taken))
 
 returns-3 : tie.Need-returns-3
-returns-3 c = rw (c .tail .ensures) (from-tail (c .before .before .before .args .i) (c .before .if2 .left) (c .before .before .before .pre))
+returns-3 c = rw (c .tail .ensures) (from-tail (c .before .before .before .args .i) (c .before .if2 .left))
 
 pub word-spec : {M : Type 1} → statement M
 word-spec =
@@ -27,6 +28,6 @@ word-spec =
     (λ c. search needs)
     returns-2
     (λ c κs. search needs)
-    (λ c. search needs)
-    (λ c. search needs)
+    (λ c. omega (arith, plan-size, c .before .before .before .pre))
+    (λ c. omega (arith, plan-size, c .before .before .before .pre))
     returns-3)
