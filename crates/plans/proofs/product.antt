@@ -1,5 +1,6 @@
 -- The product's plan: a carry-save row (CarrySave), the operands (Operands), the rows (Rows), the high half with the exponents (High), the
--- last segments as words (End) and in numbers (Normal, Pack, Choose), the definition's bits (Bits), the link (Last), the theorem (Computes).
+-- last segments as words (End) and in numbers (Normal, Pack, Choose), the definition's bits (Bits), the link (Last), the theorem (Computes); and its
+-- words from the number of a row (Words).
 pub mod CarrySave
 pub mod Operands
 pub mod Rows

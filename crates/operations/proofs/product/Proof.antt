@@ -7,9 +7,6 @@ use Rattle.operations.proofs.Masked.{product-good, with-masked}
 use Rattle.operations.proofs.product.Statement.{statement}
 use Rattle.operations.proofs.product.Tie as tie
 
-operation-answer-requires : tie.Need-operation-answer-requires
-operation-answer-requires c κs = product-good .1 .most
-
 finish-requires : tie.Need-finish-requires
 finish-requires c κs =
     let t = c .before in
@@ -43,7 +40,7 @@ pub product-spec : {M : Type 1} → statement M
 product-spec =
     tie.close
     (tie.spec
-    operation-answer-requires
+    (λ c κs. search needs)
     finish-requires
     end-requires
     (λ c. search needs)
