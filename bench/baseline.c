@@ -184,12 +184,10 @@ static size_t tape_words(size_t n, uint32_t word) {
     return kind_of(word) == AND ? n * (n - 1) : kind_of(word) == ADD ? 12 * n * (n - 1) : 0;
 }
 
-lubewon_answer base_operation(const uint32_t *plan, size_t plan_len, const uint64_t *x, size_t n, const uint64_t *y, uint64_t *result,
-                              uint64_t *work, const uint64_t *tape, size_t tape_len) {
+lubewon_answer base_operation(const uint32_t *plan, size_t plan_len, size_t units, const uint64_t *x, size_t n, const uint64_t *y,
+                              uint64_t *result, uint64_t *work, const uint64_t *tape, size_t tape_len) {
     if (n < 2 || n > 8) return refused(1, 0);
-    size_t need = 0;
-    for (size_t i = 0; i < plan_len; i++) need += tape_words(n, plan[i]);
-    if (tape_len < need) return refused(6, 0);
+    if (tape_len < units * n * (n - 1)) return refused(6, 0);
     memset(work, 0, CELLS * sizeof *work);
     for (size_t i = 0; i < n; i++) {
         work[32 * i] = x[i];

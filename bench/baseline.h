@@ -10,10 +10,11 @@ lubewon_answer base_share_run(const uint32_t *program, size_t program_len, size_
                               size_t tape_place, size_t budget, uint64_t *cells, size_t cells_len);
 
 /* (b) A good plan straight on the shares in 512 cells, one gadget for each plan word, with no share words between; gives the tape words
- * used. And an operation by such a plan: operands in registers 0 and 1 (only 0 where y is NULL), result in 2, work zero afterwards. */
+ * used. And an operation by such a plan, told its tape words as units of n(n - 1): operands in registers 0 and 1 (only 0 where y is NULL), result
+ * in 2, work zero afterwards. */
 size_t base_plan_on_shares(size_t n, const uint32_t *plan, size_t plan_len, const uint64_t *tape, uint64_t *cells);
-lubewon_answer base_operation(const uint32_t *plan, size_t plan_len, const uint64_t *x, size_t n, const uint64_t *y, uint64_t *result,
-                              uint64_t *work, const uint64_t *tape, size_t tape_len);
+lubewon_answer base_operation(const uint32_t *plan, size_t plan_len, size_t units, const uint64_t *x, size_t n, const uint64_t *y,
+                              uint64_t *result, uint64_t *work, const uint64_t *tape, size_t tape_len);
 
 /* (c) Soft-float operations by the documents' rules. */
 uint64_t base_product(uint64_t a, uint64_t b);

@@ -36,7 +36,7 @@ typedef struct {
     uint64_t (*plain)(uint64_t, uint64_t), (*base)(uint64_t, uint64_t);
     bool two; /* operands; where there is one, the second is not read */
     uint32_t plan[PLAN];
-    size_t plan_len;
+    size_t plan_len, units; /* tape words are units times n(n - 1) */
 } operation;
 
 enum { PRODUCT, SUM, FLOOR, TRUNCATE, NEAREST, OPERATIONS };
@@ -64,7 +64,7 @@ static void set_up(size_t shares) {
 /* ---- Cases: one call each, or PAIRS of them for the plain operations ---- */
 
 static lubewon_answer by_gadgets(const operation *op, uint64_t *to) {
-    return base_operation(op->plan, op->plan_len, x, n, op->two ? y : NULL, to, work, tape, TAPE);
+    return base_operation(op->plan, op->plan_len, op->units, x, n, op->two ? y : NULL, to, work, tape, TAPE);
 }
 
 #define EACH_PAIR(name, call)                                          \
@@ -100,11 +100,11 @@ ONE_OPERAND(truncate, TRUNCATE)
 ONE_OPERAND(nearest, NEAREST)
 
 static operation operations[OPERATIONS] = {
-    {"product", lubewon_copy_product_plan, product_shares, product_plain, product_base, true, {0}, 0},
-    {"sum", lubewon_copy_sum_plan, sum_shares, sum_plain, sum_base, true, {0}, 0},
-    {"floor", lubewon_copy_floor_plan, floor_shares, floor_plain, floor_base, false, {0}, 0},
-    {"truncate", lubewon_copy_truncate_plan, truncate_shares, truncate_plain, truncate_base, false, {0}, 0},
-    {"nearest", lubewon_copy_nearest_plan, nearest_shares, nearest_plain, nearest_base, false, {0}, 0},
+    {"product", lubewon_copy_product_plan, product_shares, product_plain, product_base, true, {0}, 0, 0},
+    {"sum", lubewon_copy_sum_plan, sum_shares, sum_plain, sum_base, true, {0}, 0, 0},
+    {"floor", lubewon_copy_floor_plan, floor_shares, floor_plain, floor_base, false, {0}, 0, 0},
+    {"truncate", lubewon_copy_truncate_plan, truncate_shares, truncate_plain, truncate_base, false, {0}, 0, 0},
+    {"nearest", lubewon_copy_nearest_plan, nearest_shares, nearest_plain, nearest_base, false, {0}, 0, 0},
 };
 
 static void run_library(void) { lubewon_share_run(program, program_len, 0, tape, TAPE, 0, program_len, cells, 512); }
@@ -323,7 +323,10 @@ static void stack(void) {
 
 int main(int argc, char **argv) {
     const char *mode = argc == 2 ? argv[1] : "";
-    for (operation *op = operations; op < operations + OPERATIONS; op++) op->plan_len = op->copy(op->plan, PLAN).words;
+    for (operation *op = operations; op < operations + OPERATIONS; op++) {
+        op->plan_len = op->copy(op->plan, PLAN).words;
+        op->units = lubewon_measure(2, op->plan, op->plan_len).tape / 2;
+    }
     if (strcmp(mode, "check") == 0) check();
     else if (strcmp(mode, "time") == 0) each_case(time_case);
     else if (strcmp(mode, "count") == 0) each_case(count_case);
