@@ -46,9 +46,14 @@ productWord i =
 abbrev pub tableWords : ℕ
 tableWords = length headWords + length (rowWords 0) + length tailWords
 
+-- what is proved of them
 pub record ByRows : Type 0 where
+  -- the plan is the head, the rows and the tail
   pub parts : productPlan ≡ headWords ++ (wordsOfRows rowCount ++ tailWords)
+  -- row q is row 0 with q added to its first word
   pub rows : (q : ℕ) → q < rowCount → rowWords q ≡ set (rowWords 0) 0 (getD (rowWords 0) 0 0 + q)
+  -- so each word is made from the tables and the number of a row
   pub words : (i : ℕ) → i < length productPlan → getD productPlan i 0 ≡ productWord i
+  -- and the tables are so much shorter
   pub tables : tableWords ≡ 147
   pub fewer : tableWords + 256 ≤ length productPlan

@@ -1,4 +1,4 @@
--- `operations::by_rows::finish` meets its contract: the head, the rows and the tail are the plan (ByRows).
+-- `operations::by_rows::finish` meets its contract: the head, the rows and the tail are the plan (InParts).
 use mathlib.Core.List.{[]}
 use denote.Ref.{now}
 use lib.ListN.{length}
@@ -6,7 +6,7 @@ use borrow.Author.Needs.{needs}
 use Rattle.plans.specs.ProductPlan.{productPlan}
 use Rattle.plans.proofs.product.Words.{head-sound, tail-sound}
 use Rattle.execution.proofs.Plans.{enough-tape, finished-by}
-use Rattle.operations.proofs.ByRows.{head-enough, rows-enough, tail-enough, all-done, part-accepted}
+use Rattle.operations.proofs.InParts.{head-enough, rows-enough, tail-enough, all-done, part-accepted}
 use Rattle.operations.proofs.by_rows.finish.Statement.{statement}
 use Rattle.operations.proofs.by_rows.finish.Tie as tie
 

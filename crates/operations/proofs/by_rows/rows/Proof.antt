@@ -1,4 +1,4 @@
--- `operations::by_rows::rows` meets its contract: the loop keeps that the rows before q are done (ByRows).
+-- `operations::by_rows::rows` meets its contract: the loop keeps that the rows before q are done (InParts).
 use mathlib.Core.Path.{_≡_, refl, _∙_}
 use Prim.Native.Nat.{_-_, _≤_}
 use native.Mathlib.Nat.{le-antisymm}
@@ -9,7 +9,7 @@ use Rattle.gadgets.specs.Effects.{Ran}
 use Rattle.plans.specs.ProductRows.{wordsOfRows}
 use Rattle.plans.specs.ProductPlan.{rowCount}
 use Rattle.plans.proofs.product.Words.{row-sound}
-use Rattle.operations.proofs.ByRows.{steps, no-row, next-row, row-enough, part-accepted}
+use Rattle.operations.proofs.InParts.{steps, no-row, next-row, row-enough, part-accepted}
 use Rattle.operations.proofs.by_rows.rows.Statement.{statement}
 use Rattle.operations.proofs.by_rows.rows.Tie as tie
 

@@ -57,8 +57,8 @@ module _ (n : ℕ) where
 
       pub row-enough : q < rowCount → Enough tape t (steps (wordsOfRows rowCount)) → Enough tape t′ (steps (rowWords q))
       row-enough h e =
-          let full : 51 - q + suc q ≡ 52 = omega arith in
-          omega (arith, r .place, more q, most (suc q) (51 - q), ap (λ (m : ℕ). randsOf (steps (wordsOfRows m))) full)
+          let full : rowCount - suc q + suc q ≡ rowCount = omega arith in
+          omega (arith, r .place, more q, most (suc q) (rowCount - suc q), ap (λ (m : ℕ). randsOf (steps (wordsOfRows m))) full)
 
   -- the head, the rows and the tail in turn
   module _ (tape cells : List ℕ) (e : Enough tape 0 (steps productPlan)) where
