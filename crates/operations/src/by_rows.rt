@@ -11,10 +11,10 @@ ghost use Rattle.plans.specs.ProductRows.{wordsOfRows};
 ghost use Rattle.execution.specs.Shares.{finished};
 use execution::operation::begin;
 use execution::operation::run;
-use plans::product_rows::ROWS;
-use plans::product_rows::head;
-use plans::product_rows::row;
-use plans::product_rows::tail;
+use tables::product_rows::ROWS;
+use tables::product_rows::head;
+use tables::product_rows::row;
+use tables::product_rows::tail;
 
 // The rows in order, from place `start` of the tape on; the answer is the next place.
 fn rows(n: usize, tape: &[u64], start: usize, cells: &mut [u64]) -> usize

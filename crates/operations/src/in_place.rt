@@ -23,7 +23,7 @@ pub fn product(x: &mut [u64], y: &[u64], work: &mut [u64], tape: &[u64]) -> Answ
     ensures holds { λ _. ⌜ Masked ⌝ }
 {
     let answer = operation_answer(
-        plans::product_rows::TAPE_UNITS,
+        tables::product_rows::TAPE_UNITS,
         x.len(),
         y.len(),
         x.len(),
@@ -44,8 +44,8 @@ pub fn sum(x: &mut [u64], y: &[u64], work: &mut [u64], tape: &[u64]) -> Answer
     ensures work { λ _. ⌜ now (work .exit) ≡ workAfter sumPlan (now (x .entry)) (now (y .entry)) (now (x .entry)) (now (work .entry)) (now (tape .entry)) ⌝ }
     ensures holds { λ _. ⌜ Masked ⌝ }
 {
-    let plan = plans::sum_table::words();
-    operation_in_place(&plan, plans::sum_table::TAPE_UNITS, x, y, work, tape)
+    let plan = tables::sum_table::words();
+    operation_in_place(&plan, tables::sum_table::TAPE_UNITS, x, y, work, tape)
 }
 
 // The floor of a shared operand x, likewise.
@@ -55,8 +55,8 @@ pub fn floor(x: &mut [u64], work: &mut [u64], tape: &[u64]) -> Answer
     ensures work { λ _. ⌜ now (work .exit) ≡ workAfter floorPlan (now (x .entry)) (zerosFor (now (x .entry))) (now (x .entry)) (now (work .entry)) (now (tape .entry)) ⌝ }
     ensures holds { λ _. ⌜ Masked ⌝ }
 {
-    let plan = plans::floor_table::words();
-    operation_of_one_in_place(&plan, plans::floor_table::TAPE_UNITS, x, work, tape)
+    let plan = tables::floor_table::words();
+    operation_of_one_in_place(&plan, tables::floor_table::TAPE_UNITS, x, work, tape)
 }
 
 // The truncation of a shared operand x, likewise.
@@ -66,8 +66,8 @@ pub fn truncate(x: &mut [u64], work: &mut [u64], tape: &[u64]) -> Answer
     ensures work { λ _. ⌜ now (work .exit) ≡ workAfter truncatePlan (now (x .entry)) (zerosFor (now (x .entry))) (now (x .entry)) (now (work .entry)) (now (tape .entry)) ⌝ }
     ensures holds { λ _. ⌜ Masked ⌝ }
 {
-    let plan = plans::truncate_table::words();
-    operation_of_one_in_place(&plan, plans::truncate_table::TAPE_UNITS, x, work, tape)
+    let plan = tables::truncate_table::words();
+    operation_of_one_in_place(&plan, tables::truncate_table::TAPE_UNITS, x, work, tape)
 }
 
 // The whole number nearest to a shared operand x, likewise.
@@ -77,6 +77,6 @@ pub fn nearest(x: &mut [u64], work: &mut [u64], tape: &[u64]) -> Answer
     ensures work { λ _. ⌜ now (work .exit) ≡ workAfter nearestPlan (now (x .entry)) (zerosFor (now (x .entry))) (now (x .entry)) (now (work .entry)) (now (tape .entry)) ⌝ }
     ensures holds { λ _. ⌜ Masked ⌝ }
 {
-    let plan = plans::nearest_table::words();
-    operation_of_one_in_place(&plan, plans::nearest_table::TAPE_UNITS, x, work, tape)
+    let plan = tables::nearest_table::words();
+    operation_of_one_in_place(&plan, tables::nearest_table::TAPE_UNITS, x, work, tape)
 }

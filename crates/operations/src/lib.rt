@@ -27,7 +27,7 @@ pub fn product(x: &[u64], y: &[u64], result: &mut [u64], work: &mut [u64], tape:
     ensures holds { λ _. ⌜ Masked ⌝ }
 {
     let answer = operation_answer(
-        plans::product_rows::TAPE_UNITS,
+        tables::product_rows::TAPE_UNITS,
         x.len(),
         y.len(),
         result.len(),
@@ -48,10 +48,10 @@ pub fn sum(x: &[u64], y: &[u64], result: &mut [u64], work: &mut [u64], tape: &[u
     ensures work { λ _. ⌜ now (work .exit) ≡ workAfter sumPlan (now (x .entry)) (now (y .entry)) (now (result .entry)) (now (work .entry)) (now (tape .entry)) ⌝ }
     ensures holds { λ _. ⌜ Masked ⌝ }
 {
-    let plan = plans::sum_table::words();
+    let plan = tables::sum_table::words();
     operation(
         &plan,
-        plans::sum_table::TAPE_UNITS,
+        tables::sum_table::TAPE_UNITS,
         x,
         y,
         result,
@@ -67,8 +67,15 @@ pub fn floor(x: &[u64], result: &mut [u64], work: &mut [u64], tape: &[u64]) -> A
     ensures work { λ _. ⌜ now (work .exit) ≡ workAfter floorPlan (now (x .entry)) (zerosFor (now (x .entry))) (now (result .entry)) (now (work .entry)) (now (tape .entry)) ⌝ }
     ensures holds { λ _. ⌜ Masked ⌝ }
 {
-    let plan = plans::floor_table::words();
-    operation_of_one(&plan, plans::floor_table::TAPE_UNITS, x, result, work, tape)
+    let plan = tables::floor_table::words();
+    operation_of_one(
+        &plan,
+        tables::floor_table::TAPE_UNITS,
+        x,
+        result,
+        work,
+        tape,
+    )
 }
 
 // The truncation of a shared operand x, likewise.
@@ -78,10 +85,10 @@ pub fn truncate(x: &[u64], result: &mut [u64], work: &mut [u64], tape: &[u64]) -
     ensures work { λ _. ⌜ now (work .exit) ≡ workAfter truncatePlan (now (x .entry)) (zerosFor (now (x .entry))) (now (result .entry)) (now (work .entry)) (now (tape .entry)) ⌝ }
     ensures holds { λ _. ⌜ Masked ⌝ }
 {
-    let plan = plans::truncate_table::words();
+    let plan = tables::truncate_table::words();
     operation_of_one(
         &plan,
-        plans::truncate_table::TAPE_UNITS,
+        tables::truncate_table::TAPE_UNITS,
         x,
         result,
         work,
@@ -96,10 +103,10 @@ pub fn nearest(x: &[u64], result: &mut [u64], work: &mut [u64], tape: &[u64]) ->
     ensures work { λ _. ⌜ now (work .exit) ≡ workAfter nearestPlan (now (x .entry)) (zerosFor (now (x .entry))) (now (result .entry)) (now (work .entry)) (now (tape .entry)) ⌝ }
     ensures holds { λ _. ⌜ Masked ⌝ }
 {
-    let plan = plans::nearest_table::words();
+    let plan = tables::nearest_table::words();
     operation_of_one(
         &plan,
-        plans::nearest_table::TAPE_UNITS,
+        tables::nearest_table::TAPE_UNITS,
         x,
         result,
         work,

@@ -1,6 +1,5 @@
 -- What holds of a built-in plan (Computes); the plans as steps, with runs of steps that plans share (Segments), the decoder of the exponent that the roundings to a whole
--- number share (Decoder), a run of ones found (RunOfOnes), one added by it (RoundUp); the product's words from the number of a row (ProductRows); what they cost (Cost), what is proved of each (BuiltIns), and the calls that copy
--- them out (Copy).
+-- number share (Decoder), a run of ones found (RunOfOnes), one added by it (RoundUp); the product's words from the number of a row (ProductRows); what they cost (Cost), and what is proved of each (BuiltIns).
 pub mod Computes
 pub mod Segments
 pub mod Decoder
@@ -14,4 +13,3 @@ pub mod TruncatePlan
 pub mod NearestPlan
 pub mod Cost
 pub mod BuiltIns
-pub mod Copy

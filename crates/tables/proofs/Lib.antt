@@ -1,0 +1,2 @@
+-- Copying a plan's words out (Copying).
+pub mod Copying

@@ -1,0 +1,2 @@
+-- The calls that copy the built-in plans out.
+pub mod Copy
