@@ -12,7 +12,7 @@ use Rattle.word.specs.declared.step.Step.{Step}
 use Rattle.word.specs.declared.step.Step.the-variants.{Add, Rand}
 use Rattle.word.specs.Encoding.{within}
 use Rattle.word.proofs.Ranges.{within-cells}
-use Rattle.masking.specs.Translation.{scratch, shares, pairs, upFrom, cellsOf, andBlock, block, blocks, adding}
+use Rattle.masking.specs.Translation.{scratch, shares, pairs, upFrom, cellsOf, andSteps, andBlock, block, blocks, adding}
 use Rattle.masking.proofs.emitted.Tests.{All}
 use Rattle.masking.proofs.emitted.Good.{adding-within}
 use Rattle.emission.specs.declared.emit.Once.the-variants.{CopyIn, Diagonal, CopyOut}
@@ -25,7 +25,7 @@ pub and-parts : (n d a b : ℕ) → andBlock scratch n (cellsOf d) (cellsOf a) (
     ++ (map (partStep (Diagonal a)) (shares n)
     ++ (pairSteps (Products a) (pairs (shares n))
     ++ map (partStep (CopyOut d)) (shares n))))
-unfolding andBlock
+unfolding andSteps andBlock
 and-parts n d a b = refl
 
 -- ---- ADD's steps by their numbers

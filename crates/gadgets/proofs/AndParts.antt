@@ -5,7 +5,7 @@ use Prim.Native.Nat.{ℕ, _+_, _*_}
 use native.Mathlib.Omega.{arith}
 use Rattle.word.specs.declared.step.Step.{Step}
 use Rattle.word.specs.Layout.{cellY, cellZ}
-use Rattle.masking.specs.Translation.{pairs, shares, refresh, products, scratch, andBlock}
+use Rattle.masking.specs.Translation.{pairs, shares, refresh, products, scratch, andSteps, andBlock}
 use Rattle.gadgets.specs.declared.once.Op.the-variants as op
 use Rattle.gadgets.specs.Effects.{Enough, Ran, Still, at, onceStep, placeY, placeZ}
 use Rattle.gadgets.proofs.Running.{Left, start, renamed, still-ran, part, enough, last}
@@ -45,7 +45,7 @@ module _ (n : ℕ) (d a b : ℕ → ℕ) where
   afterCopy = fresh ++ (diagonal ++ (crossed ++ copyOut))
 
   parts : andBlock scratch n d a b ≡ copyIn ++ afterCopy
-  unfolding andBlock
+  unfolding andSteps andBlock
   parts =
       λ k.
       map (onceStep (op.Shl 0) (scratch-y k) b b) (shares n)

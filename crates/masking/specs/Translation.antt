@@ -77,13 +77,17 @@ products c a (p ∷ ps) =
 
 -- "AND .. : copy b's shares to y .. Last, copy z to d." ("a copy is SHL 0") Over the cells of the shares of d, a and b, and over any choice
 -- of scratch cells.
-unfoldable pub andBlock : Scratch → ℕ → (ℕ → ℕ) → (ℕ → ℕ) → (ℕ → ℕ) → List Step
-andBlock c n d a b =
+unfoldable pub andSteps : Scratch → ℕ → (ℕ → ℕ) → (ℕ → ℕ) → (ℕ → ℕ) → List Step
+andSteps c n d a b =
     map (λ i. Shl (c .y i) (b i) 0) (shares n)
     ++ (refresh c (pairs (shares n))
     ++ (map (λ i. And (c .z i) (a i) (c .y i)) (shares n)
     ++ (products c a (pairs (shares n))
     ++ map (λ i. Shl (d i) (c .z i) 0) (shares n))))
+
+-- the translation of AND
+unfoldable pub andBlock : Scratch → ℕ → (ℕ → ℕ) → (ℕ → ℕ) → (ℕ → ℕ) → List Step
+andBlock c n d a b = andSteps c n d a b
 
 -- share i's step of a step on registers. "CONST: share 0 gets k, the others 0. NOT: share 0 inverted, the others copied by SHL 0. XOR, SHL,
 -- SHR, SPREAD: once per share." AND and ADD have blocks of their own and RAND is no step of plans: what stands there is not used.

@@ -13,7 +13,7 @@ use Rattle.word.specs.Layout.{lengthOf, tapeOf, wordMax}
 use Rattle.checks.specs.Answers.{firstOf, firstBad}
 use Rattle.word.proofs.Together.{program-exact}
 use Rattle.word.proofs.Small.{length-le}
-use Rattle.masking.specs.Translation.{upFrom, shares, shareCell, firstOther, scratch, andBlock, blocks, adding, laidOut, translated, program}
+use Rattle.masking.specs.Translation.{upFrom, shares, shareCell, firstOther, scratch, andSteps, andBlock, blocks, adding, laidOut, translated, program}
 use Rattle.masking.specs.Foretold.{Accepted, foretoldWords, foretoldTape}
 use Rattle.masking.specs.Machine.{takes, randsOf}
 use Rattle.masking.specs.Counts.{StepCounts, PlanCounts, Counts}
@@ -39,11 +39,11 @@ abbrev Foretold : Step → ℕ → Type 0
 Foretold s n = (length (blocks scratch n (laidOut s)) ≡ lengthOf (kindNumber s) n) × (randsOf (blocks scratch n (laidOut s)) ≡ tapeOf (kindNumber s) n)
 
 and-foretold : (d a b n : ℕ) → 2 ≤ n → n ≤ 8 → Foretold (And d a b) n
-unfolding andBlock lengthOf tapeOf
+unfolding andSteps andBlock lengthOf tapeOf
 and-foretold d a b = by-count (Foretold (And d a b)) (refl, refl) (refl, refl) (refl, refl) (refl, refl) (refl, refl) (refl, refl) (refl, refl)
 
 add-foretold : (d a b n : ℕ) → 2 ≤ n → n ≤ 8 → Foretold (Add d a b) n
-unfolding adding andBlock lengthOf tapeOf
+unfolding adding andSteps andBlock lengthOf tapeOf
 add-foretold d a b = by-count (Foretold (Add d a b)) (refl, refl) (refl, refl) (refl, refl) (refl, refl) (refl, refl) (refl, refl) (refl, refl)
 
 -- the other kinds: once per share, no tape

@@ -9,7 +9,7 @@ use Rattle.word.specs.declared.step.Step.the-variants.{Const, Xor, And, Not, Sh
 use Rattle.word.specs.Encoding.{numberFits, kindNumber, within}
 use Rattle.word.specs.Table.{dest, reads, Each}
 use Rattle.word.proofs.Ranges.{within-cells, within-number}
-use Rattle.masking.specs.Translation.{shares, Pair, pairs, shareCell, cellsOf, firstOther, Scratch, refresh, products, andBlock, block, blocks}
+use Rattle.masking.specs.Translation.{shares, Pair, pairs, shareCell, cellsOf, firstOther, Scratch, refresh, products, andSteps, andBlock, block, blocks}
 use Rattle.masking.proofs.emitted.Tests.{All, all-append, all-from}
 use Rattle.masking.proofs.emitted.Pairs.{Apart, apart-pairs}
 
@@ -55,14 +55,18 @@ module _ (n w : ℕ) (c : Scratch) (Q : ℕ → Type 0) (N : Names n w c Q) (P :
   pub each : (f : ℕ → Step) → ((i : ℕ) → i < n → P (f i)) → All P (map f (shares n))
   each f h = all-from P f 0 n (λ i l m. h i (omega arith))
 
-  and-all : (d a b : ℕ) → d < w → a < w → b < w → All P (andBlock c n (cellsOf d) (cellsOf a) (cellsOf b))
-  unfolding andBlock
-  and-all d a b ld la lb =
+  steps-all : (d a b : ℕ) → d < w → a < w → b < w → All P (andSteps c n (cellsOf d) (cellsOf a) (cellsOf b))
+  unfolding andSteps
+  steps-all d a b ld la lb =
       all-append P (map (λ i. Shl (c .y i) (shareCell i b) 0) (shares n)) _ (each _ (λ i l. K (Shl (c .y i) (shareCell i b) 0) tt (N .y i l, (N .share i b l lb, tt)) tt))
       (all-append P (refresh c (pairs (shares n))) _ (refresh-all (pairs (shares n)) (apart-pairs n))
       (all-append P (map (λ i. And (c .z i) (shareCell i a) (c .y i)) (shares n)) _ (each _ (λ i l. K (And (c .z i) (shareCell i a) (c .y i)) tt (N .z i l, (N .share i a l la, (N .y i l, tt))) tt))
       (all-append P (products c (cellsOf a) (pairs (shares n))) _ (products-all a la (pairs (shares n)) (apart-pairs n))
       (each _ (λ i l. K (Shl (shareCell i d) (c .z i) 0) tt (N .share i d l ld, (N .z i l, tt)) tt)))))
+
+  and-all : (d a b : ℕ) → d < w → a < w → b < w → All P (andBlock c n (cellsOf d) (cellsOf a) (cellsOf b))
+  unfolding andBlock
+  and-all = steps-all
 
   -- registers in range have their shares among the cells
   shared : (i : ℕ) → i < n → (rs : List ℕ) → Each (λ r. r < w) rs → Each Q (map (shareCell i) rs)

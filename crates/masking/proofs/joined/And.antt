@@ -9,7 +9,7 @@ use Rattle.bits.proofs.Shift.{shl-zero}
 use Rattle.word.specs.declared.step.Step.{Step}
 use Rattle.word.specs.declared.step.Step.the-variants.{And, Shl}
 use Rattle.word.proofs.Becomes.{becomes-lt}
-use Rattle.masking.specs.Translation.{shares, pairs, shareCell, Scratch, refresh, products, andBlock, cellsOf}
+use Rattle.masking.specs.Translation.{shares, pairs, shareCell, Scratch, refresh, products, andSteps, andBlock, cellsOf}
 use Rattle.masking.specs.Unsplit.{xorOver}
 use Rattle.masking.proofs.emitted.Pairs.{apart-pairs}
 use Rattle.masking.proofs.emitted.Places.{Places}
@@ -107,9 +107,9 @@ module _ (n w : ℕ) (C : Scratch) (L : Places n w C) (d a b : ℕ) (ld : d < w)
       (λ c i j v l m ne. ap (λ (x : ℕ). shlW x 0) (upd-other c (shareCell j d) v (C .z i) (λ q. L .share-z j d i m ld l (sym q)))) c (sumZ c)
       (sum-same n (λ i. shlW (c (C .z i)) 0) (λ i. c (C .z i)) (λ i l. shl-zero _ (words _)))
 
-  pub and-joins : (c : Cells) → WordCells c → after (andBlock C n (cellsOf d) (cellsOf a) (cellsOf b)) (Sets n w c d (andW (joinOf n c a) (joinOf n c b))) c
-  unfolding andBlock
-  and-joins c words =
+  steps-join : (c : Cells) → WordCells c → after (andSteps C n (cellsOf d) (cellsOf a) (cellsOf b)) (Sets n w c d (andW (joinOf n c a) (joinOf n c b))) c
+  unfolding andSteps
+  steps-join c words =
       after-then copyB _ _ Ψ c (copied c words) (λ e₁ h₁.
       after-then (refresh C (pairs (shares n))) _ _ Ψ e₁ (refreshed e₁ (h₁ .0)) (λ e₂ h₂.
       after-then ownProducts _ _ Ψ e₂ (started e₂ (h₂ .0)) (λ e₃ h₃.
@@ -124,3 +124,7 @@ module _ (n w : ℕ) (C : Scratch) (L : Places n w C) (d a b : ℕ) (ld : d < w)
     where
       Ψ : Cells → Type 0
       Ψ = Sets n w c d (andW (joinOf n c a) (joinOf n c b))
+
+  pub and-joins : (c : Cells) → WordCells c → after (andBlock C n (cellsOf d) (cellsOf a) (cellsOf b)) (Sets n w c d (andW (joinOf n c a) (joinOf n c b))) c
+  unfolding andBlock
+  and-joins = steps-join

@@ -9,7 +9,7 @@ use lib.Dec.{T}
 use lib.ListN.{length, length-append}
 use Rattle.word.specs.declared.step.Step.{Step}
 use Rattle.word.specs.declared.step.Step.the-variants.{Shl, And}
-use Rattle.masking.specs.Translation.{Scratch, shareCell, shares, pairs, andBlock, cellsOf}
+use Rattle.masking.specs.Translation.{Scratch, shareCell, shares, pairs, andSteps, cellsOf}
 use Rattle.masking.proofs.emitted.Places.{Places}
 use Rattle.masking.proofs.emitted.Pairs.{apart-pairs}
 use Rattle.masking.proofs.joined.Cells.{Cells}
@@ -55,7 +55,7 @@ module _ (sc : Scratch) (n d a b : ℕ) (m : Marks) (S : List ℕ) where
   abbrev setN : List ℕ
   setN = setK ++ (setB ++ marksN (has setK) m3 (pairs (shares n)))
 
-  and-count : count m (acts (andBlock sc n (cellsOf d) (cellsOf a) (cellsOf b)))
+  and-count : count m (acts (andSteps sc n (cellsOf d) (cellsOf a) (cellsOf b)))
       ≡ count m (acts (copies sc n d a b)) + (count m1 (acts (refreshed sc n d a b)) + (count m2 (acts (diagonal sc n d a b)) + (count m3 (acts (crossed sc n d a b)) + count m4 (acts (results sc n d a b)))))
   and-count =
       ap (λ (P : List Step). count m (acts P)) (parts sc n d a b)
@@ -73,13 +73,13 @@ module _ (sc : Scratch) (n d a b : ℕ) (m : Marks) (S : List ℕ) where
       simp length-append
       (omega (arith, marked-count (λ i. And (sc .z i) (shareCell i a) (sc .y i)) m2 (shares n), marked-count (λ i. Shl (shareCell i d) (sc .z i) 0) m4 (shares n)))
 
-  pub size-W : length setW ≤ length S + count m (acts (andBlock sc n (cellsOf d) (cellsOf a) (cellsOf b)))
+  pub size-W : length setW ≤ length S + count m (acts (andSteps sc n (cellsOf d) (cellsOf a) (cellsOf b)))
   unfolding setW
   size-W =
       let p = products-count sc a m m3 (pairs (shares n)) .0 in
       omega (arith, length-append setA setB, length-append setK (marksA m3 (pairs (shares n))), size-B, size-K, and-count, p)
 
-  size-N : length setN ≤ length S + count m (acts (andBlock sc n (cellsOf d) (cellsOf a) (cellsOf b)))
+  size-N : length setN ≤ length S + count m (acts (andSteps sc n (cellsOf d) (cellsOf a) (cellsOf b)))
   size-N =
       let N = marksN (has setK) m3 (pairs (shares n)) in
       let p = products-count sc a (has setK) m3 (pairs (shares n)) .1 in
@@ -87,8 +87,8 @@ module _ (sc : Scratch) (n d a b : ℕ) (m : Marks) (S : List ℕ) where
 
 module _ (n w : ℕ) (sc : Scratch) (L : Places n w sc) where
   pub and-marked : (d a b : ℕ) (m : Marks) (S : List ℕ) (R : ℕ → Bool) → d < w → a < w → b < w → T (R a) → T (R b)
-      → length S + count m (acts (andBlock sc n (cellsOf d) (cellsOf a) (cellsOf b))) < n → (c c′ : Cells) → Agreed n w R (has (setW sc n d a b m S)) c c′
-      → wp m (acts (andBlock sc n (cellsOf d) (cellsOf a) (cellsOf b))) (Agreed n w (adds d R) (has S)) c c′
+      → length S + count m (acts (andSteps sc n (cellsOf d) (cellsOf a) (cellsOf b))) < n → (c c′ : Cells) → Agreed n w R (has (setW sc n d a b m S)) c c′
+      → wp m (acts (andSteps sc n (cellsOf d) (cellsOf a) (cellsOf b))) (Agreed n w (adds d R) (has S)) c c′
   unfolding setW
   and-marked d a b m S R ld la lb Ra Rb small c c′ g = by (outside n N (omega (arith, size-N sc n d a b m S)))
     where
@@ -140,7 +140,7 @@ module _ (n w : ℕ) (sc : Scratch) (L : Places n w sc) where
       in-K : (i : ℕ) → T (has (M3 ++ (MK ++ M5)) i) → T (has K i)
       in-K i x = has-right S (M3 ++ (MK ++ M5)) i x
 
-      by : (k : ℕ) × (k < n) × (T (has N k) → ⊥) → wp m (acts (andBlock sc n (cellsOf d) (cellsOf a) (cellsOf b))) (Agreed n w (adds d R) (has S)) c c′
+      by : (k : ℕ) × (k < n) × (T (has N k) → ⊥) → wp m (acts (andSteps sc n (cellsOf d) (cellsOf a) (cellsOf b))) (Agreed n w (adds d R) (has S)) c c′
       by (k, lk, out) =
           and-wp n w sc L d a b ld la lb R Ra Rb (has (A ++ B)) (has A) (has B) (has K) (has S) k
           (record {

@@ -10,7 +10,7 @@ use lib.Dec.{T}
 use Rattle.bits.specs.Ops.{andW, shlW}
 use Rattle.word.specs.declared.step.Step.{Step}
 use Rattle.word.specs.declared.step.Step.the-variants.{Shl, And}
-use Rattle.masking.specs.Translation.{Scratch, shareCell, shares, pairs, refresh, products, andBlock, cellsOf}
+use Rattle.masking.specs.Translation.{Scratch, shareCell, shares, pairs, refresh, products, andSteps, cellsOf}
 use Rattle.masking.proofs.emitted.Places.{Places}
 use Rattle.masking.proofs.emitted.Pairs.{apart-pairs}
 use Rattle.masking.proofs.joined.Cells.{Cells}
@@ -41,8 +41,8 @@ module _ (sc : Scratch) (n d a b : ℕ) where
   abbrev pub results : List Step
   results = map (λ i. Shl (shareCell i d) (z i) 0) (shares n)
 
-  pub parts : andBlock sc n (cellsOf d) (cellsOf a) (cellsOf b) ≡ copies ++ (refreshed ++ (diagonal ++ (crossed ++ results)))
-  unfolding andBlock
+  pub parts : andSteps sc n (cellsOf d) (cellsOf a) (cellsOf b) ≡ copies ++ (refreshed ++ (diagonal ++ (crossed ++ results)))
+  unfolding andSteps
   parts = refl
 
   -- the marks after each part
@@ -147,7 +147,7 @@ module _ (n w : ℕ) (sc : Scratch) (L : Places n w sc) (d a b : ℕ) (ld : d < 
       P = acts (results sc n d a b)
 
   pub and-wp : (m : Marks) → AndAsks sc n d a b A B K k m → (c c′ : Cells) → Agreed n w R W c c′
-      → wp m (acts (andBlock sc n (cellsOf d) (cellsOf a) (cellsOf b))) (Agreed n w (adds d R) S) c c′
+      → wp m (acts (andSteps sc n (cellsOf d) (cellsOf a) (cellsOf b))) (Agreed n w (adds d R) S) c c′
   and-wp m s c c′ g =
       rw (parts sc n d a b)
       (wp-then m P1 (P2 ++ (P3 ++ (P4 ++ P5))) _ Ψ c c′ (part1 m (s .m1) c c′ g) (λ c c′ g.

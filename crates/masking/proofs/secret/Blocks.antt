@@ -133,11 +133,16 @@ module _ (n w : ℕ) (sc : Scratch) (L : Places n w sc) where
 
   and-hides : (d a b : ℕ) (m : Marks) (S : List ℕ) (R : ℕ → Bool) → T (readable w R (And d a b)) → length S + count m (acts (andBlock sc n (cellsOf d) (cellsOf a) (cellsOf b))) < n
       → (c c′ : Cells) → Agreed n w R (has (setW sc n d a b m S)) c c′ → wp m (acts (andBlock sc n (cellsOf d) (cellsOf a) (cellsOf b))) (Agreed n w (adds d R) (has S)) c c′
+  unfolding andBlock
   and-hides d a b m S R h small c c′ g =
       let e = readable-parts w R (And d a b) h in
       let ka = e .1 a (inl refl) in
       let kb = e .1 b (inr (inl refl)) in
       and-marked n w sc L d a b m S R (e .0) (ka .0) (kb .0) (ka .1) (kb .1) small c c′ g
+
+  and-size : (d a b : ℕ) (m : Marks) (S : List ℕ) → length (setW sc n d a b m S) ≤ length S + count m (acts (andBlock sc n (cellsOf d) (cellsOf a) (cellsOf b)))
+  unfolding andBlock
+  and-size = size-W sc n
 
   abbrev product : ℕ → ℕ → ℕ → Gadget n w
   product d a b =
@@ -146,7 +151,7 @@ module _ (n w : ℕ) (sc : Scratch) (L : Places n w sc) where
         sets = d;
         ready = λ R. readable w R (And d a b);
         before = setW sc n d a b;
-        size = size-W sc n d a b;
+        size = and-size d a b;
         hides = and-hides d a b;
       }
 
