@@ -47,7 +47,7 @@ static bool good(const rules *r, uint32_t word) {
 
 lubewon_answer base_share_run(const uint32_t *program, size_t program_len, size_t place, const uint64_t *tape, size_t tape_len,
                               size_t tape_place, size_t budget, uint64_t *cells, size_t cells_len) {
-    if (program_len > 7815168) return refused(2, 0);
+    if (program_len > 8257536) return refused(2, 0);
     for (size_t i = 0; i < program_len; i++)
         if (!good(&share_rules, program[i])) return refused(3, i);
     if (cells_len != CELLS) return refused(4, 0);
@@ -112,9 +112,10 @@ static void masked_not(size_t n, shared d, shared a) {
     for (size_t i = 1; i < n; i++) d.first[d.step * i] = a.first[a.step * i];
 }
 
-/* AND with one operand refreshed. */
-static const uint64_t *masked_and(size_t n, uint64_t *cells, shared d, shared a, shared b, const uint64_t *tape) {
-    uint64_t *y = cells + Y, *z = cells + Z, t = 0, u = 0;
+/* AND with one operand refreshed; its scratch cells are wiped. Left to itself the compiler wipes by two calls of memset, which cost more than
+ * the stores of a short loop. */
+__attribute__((optimize("no-tree-loop-distribute-patterns"))) static const uint64_t *masked_and(size_t n, uint64_t *cells, shared d, shared a, shared b, const uint64_t *tape) {
+    uint64_t *y = cells + Y, *z = cells + Z;
     for (size_t i = 0; i < n; i++) y[i] = b.first[b.step * i];
     for (size_t i = 0; i < n; i++)
         for (size_t j = i + 1; j < n; j++) {
@@ -125,16 +126,16 @@ static const uint64_t *masked_and(size_t n, uint64_t *cells, shared d, shared a,
     for (size_t i = 0; i < n; i++) z[i] = a.first[a.step * i] & y[i];
     for (size_t i = 0; i < n; i++)
         for (size_t j = i + 1; j < n; j++) {
-            t = *tape++;
+            uint64_t t = *tape++;
             z[i] ^= t;
             t ^= a.first[a.step * i] & y[j];
-            u = a.first[a.step * j] & y[i];
-            t ^= u;
+            t ^= a.first[a.step * j] & y[i];
             z[j] ^= t;
         }
     for (size_t i = 0; i < n; i++) d.first[d.step * i] = z[i];
-    cells[T] = t;
-    cells[U] = u;
+    for (size_t i = 0; i < n; i++) y[i] = z[i] = 0;
+    cells[T] = 0;
+    cells[U] = 0;
     return tape;
 }
 
@@ -177,7 +178,7 @@ size_t base_plan_on_shares(size_t n, const uint32_t *plan, size_t plan_len, cons
 }
 
 static size_t share_words(size_t n, uint32_t word) {
-    return kind_of(word) == AND ? 5 * n * n - 2 * n : kind_of(word) == ADD ? 60 * n * n - 3 * n : n;
+    return kind_of(word) == AND ? 5 * n * n + 2 : kind_of(word) == ADD ? 60 * n * n + 21 * n + 24 : n;
 }
 
 static size_t tape_words(size_t n, uint32_t word) {
@@ -314,6 +315,10 @@ static uint32_t *write_and(uint32_t *out, size_t n, cells_of d, cells_of a, cell
             *out++ = word_of(XOR, Z + j, Z + j, T);
         }
     for (size_t i = 0; i < n; i++) *out++ = word_of(SHL, at(d, i), Z + i, 0);
+    for (size_t i = 0; i < n; i++) *out++ = word_of(CONST, Y + i, 0, 0);
+    for (size_t i = 0; i < n; i++) *out++ = word_of(CONST, Z + i, 0, 0);
+    *out++ = word_of(CONST, T, 0, 0);
+    *out++ = word_of(CONST, U, 0, 0);
     return out;
 }
 

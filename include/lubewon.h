@@ -7,7 +7,7 @@
  * ANSWERS. Every call answers every input. `number` is 0 for done, else the number of the turn-down, the first of these that applies:
  *
  *   1  LUBEWON_SHARE_COUNT   share count not 2..8
- *   2  LUBEWON_TOO_LONG      plan longer than 2,048 words, or share program longer than 7,815,168
+ *   2  LUBEWON_TOO_LONG      plan longer than 2,048 words, or share program longer than 8,257,536
  *   3  LUBEWON_BAD_WORD      a bad word; `place` is the first one's, from 0
  *   4  LUBEWON_WRONG_LENGTH  a slice of wrong length
  *   5  LUBEWON_PAST_END      place past the end of program or tape (equal to its length is not past it)
@@ -40,7 +40,8 @@
  *                                                 9 RAND    the next tape word; a = b = 0
  *
  * A plan has words of kinds 1 to 8 on registers 0..31, a share program words of kinds 1 to 7 and 9 on cells 0..511; every other word is bad. Share
- * i of register r is cell 32 i + r; cells from 256 on are scratch. docs/PLANS.md shows how to write a plan.
+ * i of register r is cell 32 i + r; cells from 256 on are scratch. A translated AND or ADD leaves AND's own scratch zero, cells 256 + i and 264 + i
+ * of each share, 272 and 273; the registers' shares stay, and ADD's four helpers', cells 288 + 8 i + h. docs/PLANS.md shows how to write a plan.
  */
 #ifndef LUBEWON_H
 #define LUBEWON_H
@@ -53,8 +54,8 @@ extern "C" {
 #endif
 
 /* The number grows by one with every change of the calls. */
-#define LUBEWON_VERSION "0.11"
-#define LUBEWON_VERSION_NUMBER 11
+#define LUBEWON_VERSION "0.12"
+#define LUBEWON_VERSION_NUMBER 12
 
 /* Turn-downs. */
 enum {
@@ -74,7 +75,7 @@ enum {
 #define LUBEWON_CELLS 512
 #define LUBEWON_WORK 512
 #define LUBEWON_PLAN_MAX 2048
-#define LUBEWON_PROGRAM_MAX 7815168
+#define LUBEWON_PROGRAM_MAX 8257536
 
 /* The cell of share i of register r. */
 #define LUBEWON_CELL(i, r) (32 * (i) + (r))

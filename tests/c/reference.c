@@ -213,6 +213,10 @@ static void emit_and(emitter *e, shared d, shared a, shared b) {
             emit_into(e, share(Z, j), T_CELL);
         }
     emit_copy(e, d, Z);
+    for (unsigned i = 0; i < e->n; i++) emit(e, REF_CONST, share(Y, i), 0, 0);
+    for (unsigned i = 0; i < e->n; i++) emit(e, REF_CONST, share(Z, i), 0, 0);
+    emit(e, REF_CONST, T_CELL, 0, 0);
+    emit(e, REF_CONST, U_CELL, 0, 0);
 }
 
 static void emit_add(emitter *e, shared d, shared a, shared b) {
@@ -252,7 +256,7 @@ ref_answer ref_measure(size_t n, const uint32_t *plan, size_t plan_len) {
     size_t words = 0, tape = 0, q = n * (n - 1) / 2;
     for (size_t i = 0; i < plan_len; i++) {
         unsigned kind = plan[i] >> 28;
-        words += kind == REF_AND ? 5 * n * n - 2 * n : kind == REF_ADD ? 60 * n * n - 3 * n : n;
+        words += kind == REF_AND ? 5 * n * n + 2 : kind == REF_ADD ? 60 * n * n + 21 * n + 24 : n;
         tape += kind == REF_AND ? 2 * q : kind == REF_ADD ? 24 * q : 0;
     }
     return done(words, tape);

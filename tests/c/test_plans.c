@@ -98,7 +98,7 @@ static void measure_turn_downs(void) {
 static void measure_figures(void) {
     static const struct {
         size_t n, and_words, and_tape, add_words, add_tape;
-    } figures[] = {{2, 16, 2, 234, 24}, {8, 304, 56, 3816, 672}};
+    } figures[] = {{2, 22, 2, 306, 24}, {8, 322, 56, 4032, 672}};
     for (size_t i = 0; i < COUNT(figures); i++) {
         uint32_t and_word = ref_word(REF_AND, 1, 1, 1), add_word = ref_word(REF_ADD, 1, 2, 3);
         lubewon_answer a = try_measure(0, figures[i].n, &and_word, 1);
@@ -121,7 +121,7 @@ void test_measure(void) {
         }
     for (size_t i = 0; i < REF_PLAN_LIMIT; i++) plan[i] = ref_word(REF_ADD, 31, 31, 31);
     CHECK(try_measure(0, 8, plan, REF_PLAN_LIMIT).words == REF_PROGRAM_LIMIT, "measure: the longest share program");
-    end("1 to 3 in all combinations, places, document 01's figures, random plans for n = 2..8");
+    end("1 to 3 in all combinations, places, the documents' figures, random plans for n = 2..8");
 }
 
 /* ---- Translate: `out` has room for the longest share program and 64 words more ---- */

@@ -37,6 +37,13 @@ static void join_registers(size_t n, const uint64_t *cells, uint64_t *registers)
     }
 }
 
+/* AND's scratch cells for n shares that are not zero: y and z of each share, t and u. */
+static size_t scratch_left(size_t n, const uint64_t *cells) {
+    size_t left = (cells[272] != 0) + (cells[273] != 0);
+    for (size_t i = 0; i < n; i++) left += (cells[256 + i] != 0) + (cells[264 + i] != 0);
+    return left;
+}
+
 static size_t random_budget(size_t words) {
     switch (below(6)) {
     case 0: return below(3) ? below(4) : 0;
@@ -96,11 +103,12 @@ static void runs_in_a_row(size_t n, const uint32_t *plan, size_t plan_len) {
     put_away(&j);
 }
 
-/* After each plan word the registers join to the plain run so far, and the tape words used are those foretold. */
+/* After each plan word the registers join to the plain run so far, the tape words used are those foretold, and from the first AND or ADD on
+ * AND's scratch cells are zero. */
 static void word_by_word(size_t n, const uint32_t *plan, size_t plan_len) {
     job j = prepare(n, plan, plan_len, ref_measure(n, plan, plan_len).tape);
     uint64_t *cells = j.start, joined[REF_REGISTERS], registers[REF_REGISTERS];
-    size_t place = 0, used = 0;
+    size_t place = 0, used = 0, multiplied = 0;
     join_registers(n, cells, registers);
     for (size_t k = 0; k < plan_len; k++) {
         lubewon_answer block = lubewon_measure(n, plan + k, 1);
@@ -111,6 +119,8 @@ static void word_by_word(size_t n, const uint32_t *plan, size_t plan_len) {
         try_plain_run(0, plan + k, 1, registers, REF_REGISTERS);
         join_registers(n, cells, joined);
         CHECK(memcmp(joined, registers, sizeof joined) == 0, "word by word: plan word %08X for n = %zu joins wrongly", plan[k], n);
+        multiplied += plan[k] >> 28 == REF_AND || plan[k] >> 28 == REF_ADD;
+        CHECK(multiplied == 0 || scratch_left(n, cells) == 0, "word by word: scratch left after plan word %08X for n = %zu", plan[k], n);
     }
     CHECK(place == j.words && used == j.tape_words, "word by word: the whole program");
     put_away(&j);

@@ -1,4 +1,4 @@
-"""Document 01's listing of an input, written anew: step words taken apart, the translation for n shares, the lines."""
+"""The documents' listing of an input, written anew: step words taken apart, the translation for n shares, the lines."""
 
 CONST, XOR, AND, NOT, SHL, SHR, SPREAD, ADD, RAND = range(1, 10)
 H, G, P, T = range(32, 36)
@@ -36,7 +36,8 @@ def and_block(n, d, a, b):
         out += [word(RAND, t), word(XOR, z(i), z(i), t)]
         out += [word(AND, u, cell(i, a), y(j)), word(XOR, t, t, u), word(AND, u, cell(j, a), y(i)), word(XOR, t, t, u)]
         out += [word(XOR, z(j), z(j), t)]
-    return out + [word(SHL, cell(i, d), z(i)) for i in range(n)]
+    out += [word(SHL, cell(i, d), z(i)) for i in range(n)]
+    return out + [word(CONST, c) for c in [y(i) for i in range(n)] + [z(i) for i in range(n)] + [t, u]]
 
 
 def steps(kind, d, a, b):

@@ -1,4 +1,5 @@
--- Steps on registers in the parts in which they are written: AND's five, and ADD's 33 one by one. Rests on masking's Good and Rising.
+-- Steps on registers in the parts in which they are written: AND's five and the wiping, and ADD's 33 one by one. Rests on masking's Good,
+-- Rising and Wiping.
 use mathlib.Core.Path.{_≡_, refl, sym, ap, subst, _∙_}
 use mathlib.Core.List.{List, [], _∷_, _++_, map}
 use Prim.Native.Nat.{ℕ, zero, suc, _+_, _<_}
@@ -9,24 +10,34 @@ use lib.Dec.{T}
 use lib.ListN.{length, getD, drop}
 use lib.Seq.{drop-cons}
 use Rattle.word.specs.declared.step.Step.{Step}
-use Rattle.word.specs.declared.step.Step.the-variants.{Add, Rand}
+use Rattle.word.specs.declared.step.Step.the-variants.{Const, Add, Rand}
 use Rattle.word.specs.Encoding.{within}
 use Rattle.word.proofs.Ranges.{within-cells}
-use Rattle.masking.specs.Translation.{scratch, shares, pairs, upFrom, cellsOf, andSteps, andBlock, block, blocks, adding}
+use Rattle.masking.specs.Translation.{scratch, shares, pairs, upFrom, cellsOf, scratchCells, wiping, andSteps, andBlock, block, blocks, adding}
 use Rattle.masking.proofs.emitted.Tests.{All}
+use Rattle.masking.proofs.emitted.Wiping.{wiping-shares}
 use Rattle.masking.proofs.emitted.Good.{adding-within}
-use Rattle.emission.specs.declared.emit.Once.the-variants.{CopyIn, Diagonal, CopyOut}
+use Rattle.emission.specs.declared.emit.Once.the-variants.{CopyIn, Diagonal, CopyOut, Wipe}
 use Rattle.emission.specs.declared.pairs.EachPair.the-variants.{Refresh, Products}
 use Rattle.emission.specs.Written.{Registers, partStep, pairSteps, adderStep}
 
-pub and-parts : (n d a b : ℕ) → andBlock scratch n (cellsOf d) (cellsOf a) (cellsOf b) ≡
+pub and-parts : (n d a b : ℕ) → andSteps scratch n (cellsOf d) (cellsOf a) (cellsOf b) ≡
     map (partStep (CopyIn b)) (shares n)
     ++ (pairSteps Refresh (pairs (shares n))
     ++ (map (partStep (Diagonal a)) (shares n)
     ++ (pairSteps (Products a) (pairs (shares n))
     ++ map (partStep (CopyOut d)) (shares n))))
-unfolding andSteps andBlock
+unfolding andSteps
 and-parts n d a b = refl
+
+pub and-wiped : (n d a b : ℕ) → andBlock scratch n (cellsOf d) (cellsOf a) (cellsOf b)
+    ≡ andSteps scratch n (cellsOf d) (cellsOf a) (cellsOf b) ++ wiping (scratchCells scratch n)
+unfolding andBlock
+and-wiped n d a b = refl
+
+pub wiping-parts : (n : ℕ) → wiping (scratchCells scratch n)
+    ≡ map (partStep (Wipe 256)) (shares n) ++ (map (partStep (Wipe 264)) (shares n) ++ ((Const 272 0 ∷ []) ++ (Const 273 0 ∷ [])))
+wiping-parts n = wiping-shares scratch n
 
 -- ---- ADD's steps by their numbers
 at-number : (f : ℕ → Step) (s c k : ℕ) → k < c → getD (map f (upFrom s c)) k (Rand 0) ≡ f (s + k)

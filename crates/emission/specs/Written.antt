@@ -7,13 +7,13 @@ use lib.Dec.{eqb}
 use lib.ListN.{length}
 use lib.Seq.{sets}
 use Rattle.word.specs.declared.step.Step.{Step}
-use Rattle.word.specs.declared.step.Step.the-variants.{Xor, And, Shl}
+use Rattle.word.specs.declared.step.Step.the-variants.{Const, Xor, And, Shl}
 use Rattle.word.specs.Encoding.{wordOf}
 use Rattle.word.specs.Table.{dest, reads, Each}
 use Rattle.word.specs.Layout.{cellY, cellZ}
 use Rattle.masking.specs.Translation.{Pair, refresh, products, scratch, shareCell, cellsOf, shareStep, rH, rG, rP, rT}
 use Rattle.emission.specs.declared.emit.Once.{Once}
-use Rattle.emission.specs.declared.emit.Once.the-variants.{Own, CopyIn, Diagonal, CopyOut}
+use Rattle.emission.specs.declared.emit.Once.the-variants.{Own, CopyIn, Diagonal, CopyOut, Wipe}
 use Rattle.emission.specs.declared.pairs.EachPair.{EachPair}
 use Rattle.emission.specs.declared.pairs.EachPair.the-variants.{Refresh, Products}
 
@@ -26,12 +26,14 @@ pub record Emits (out : List ℕ) (at : ℕ) (ss : List Step) (after : List ℕ)
 pub record Room (out : List ℕ) (at : ℕ) (ss : List Step) : Type 0 where
   pub fits : at + length ss ≤ length out
 
--- what share i gets: of a step on registers, or of AND's parts ("copy b's shares to y", "z_i .. = a_i AND y_i", "copy z to d")
+-- what share i gets: of a step on registers, or of AND's parts ("copy b's shares to y", "z_i .. = a_i AND y_i", "copy z to d", and
+-- "CONST 0 into y_0.., z_0..", cells in a row)
 abbrev pub partStep : Once → ℕ → Step
 partStep (Own s) i = shareStep s i
 partStep (CopyIn b) i = Shl (cellY i) (shareCell i b) 0
 partStep (Diagonal a) i = And (cellZ i) (shareCell i a) (cellY i)
 partStep (CopyOut d) i = Shl (shareCell i d) (cellZ i) 0
+partStep (Wipe c) i = Const (c + i) 0
 
 -- the registers that a step names: the plan's 32, and the helpers from 32 on (below 40 is all that the cells' places need)
 abbrev pub Registers : Step → Type 0
@@ -42,6 +44,7 @@ OnceRegisters (Own s) = Registers s
 OnceRegisters (CopyIn b) = b < 40
 OnceRegisters (Diagonal a) = a < 40
 OnceRegisters (CopyOut d) = d < 40
+OnceRegisters (Wipe c) = c < 512
 
 -- what pairs get
 abbrev pub pairSteps : EachPair → List Pair → List Step

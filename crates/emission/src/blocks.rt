@@ -1,16 +1,18 @@
 // The share steps of a step on registers, and ADD laid out in such steps.
 ghost use Prim.Native.Nat.{_<_};
 ghost use Rattle.masking.specs.Translation as translation;
-ghost use Rattle.masking.specs.Translation.{andBlock, cellsOf, scratch};
+ghost use Rattle.masking.specs.Translation.{andBlock, andSteps, cellsOf, scratch, scratchCells};
 ghost use mathlib.Core.Path.{_≡_};
 ghost use Rattle.emission.specs.Written as emission;
 ghost use Rattle.emission.specs.Written.{Emits, Registers, Room};
 use crate::emit::HELPERS;
 use crate::emit::Once;
 use crate::emit::each_share;
+use crate::emit::put;
 use crate::pairs::EachPair;
 use crate::pairs::all_pairs;
 use word::step::Step;
+use word::step_word::StepWord;
 
 // The helper registers of ADD.
 const H: u16 = HELPERS;
@@ -21,16 +23,51 @@ const P: u16 = HELPERS + 2;
 
 const T: u16 = HELPERS + 3;
 
-fn and_block(d: u16, a: u16, b: u16, n: u8, at: usize, out: &mut [u32]) -> usize
+// AND's steps, before its scratch cells are wiped.
+fn and_steps(d: u16, a: u16, b: u16, n: u8, at: usize, out: &mut [u32]) -> usize
     requires { ⌜ Registers (Step.And d a b) ⌝ }
-    requires { ⌜ Room (now out) at (andBlock scratch n (cellsOf d) (cellsOf a) (cellsOf b)) ⌝ }
-    ensures { λ r. ⌜ Emits (now (out .entry)) at (andBlock scratch n (cellsOf d) (cellsOf a) (cellsOf b)) (now (out .exit)) r ⌝ }
+    requires { ⌜ Room (now out) at (andSteps scratch n (cellsOf d) (cellsOf a) (cellsOf b)) ⌝ }
+    ensures { λ r. ⌜ Emits (now (out .entry)) at (andSteps scratch n (cellsOf d) (cellsOf a) (cellsOf b)) (now (out .exit)) r ⌝ }
 {
     let at = each_share(Once::CopyIn(b), n, at, out);
     let at = all_pairs(EachPair::Refresh, n, at, out);
     let at = each_share(Once::Diagonal(a), n, at, out);
     let at = all_pairs(EachPair::Products(a), n, at, out);
     each_share(Once::CopyOut(d), n, at, out)
+}
+
+// CONST 0 into AND's scratch cells: y and z of each share, t and u.
+fn wiping(n: u8, at: usize, out: &mut [u32]) -> usize
+    requires { ⌜ Room (now out) at (translation.wiping (scratchCells scratch n)) ⌝ }
+    ensures { λ r. ⌜ Emits (now (out .entry)) at (translation.wiping (scratchCells scratch n)) (now (out .exit)) r ⌝ }
+{
+    let at = each_share(Once::Wipe(StepWord::Y), n, at, out);
+    let at = each_share(Once::Wipe(StepWord::Z), n, at, out);
+    let at = put(
+        Step::Const {
+            d: StepWord::T,
+            k: 0,
+        },
+        at,
+        out,
+    );
+    put(
+        Step::Const {
+            d: StepWord::U,
+            k: 0,
+        },
+        at,
+        out,
+    )
+}
+
+fn and_block(d: u16, a: u16, b: u16, n: u8, at: usize, out: &mut [u32]) -> usize
+    requires { ⌜ Registers (Step.And d a b) ⌝ }
+    requires { ⌜ Room (now out) at (andBlock scratch n (cellsOf d) (cellsOf a) (cellsOf b)) ⌝ }
+    ensures { λ r. ⌜ Emits (now (out .entry)) at (andBlock scratch n (cellsOf d) (cellsOf a) (cellsOf b)) (now (out .exit)) r ⌝ }
+{
+    let at = and_steps(d, a, b, n, at, out);
+    wiping(n, at, out)
 }
 
 // The share steps of a step on registers; ADD is laid out by `adding` first.

@@ -8,12 +8,13 @@ ghost use Rattle.emission.specs.Written.{Emits, OnceRegisters, Registers
 use word::step::Step;
 use word::step_word::StepWord;
 
-// The share steps that come once per share: those of a step on registers, and three parts of AND.
+// The share steps that come once per share: those of a step on registers, three parts of AND, and CONST 0 into the cells from one on.
 pub enum Once {
     Own(Step),
     CopyIn(u16),
     Diagonal(u16),
     CopyOut(u16),
+    Wipe(u16),
 }
 
 // Writes a step's word; the answer is the next place.
@@ -106,6 +107,10 @@ fn once_step(o: Once, i: u8) -> Step
             d: share_cell(i, d),
             a: StepWord::z(i),
             b: 0,
+        },
+        Once::Wipe(c) => Step::Const {
+            d: c + (i as u16),
+            k: 0,
         },
     }
 }

@@ -3,3 +3,4 @@
 pub mod and;
 pub mod once;
 pub mod pairs;
+pub mod wipe;

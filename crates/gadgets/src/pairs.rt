@@ -12,9 +12,9 @@ pub const Y: usize = StepWord::Y as usize;
 
 pub const Z: usize = StepWord::Z as usize;
 
-const T: usize = StepWord::T as usize;
+pub const T: usize = StepWord::T as usize;
 
-const U: usize = StepWord::U as usize;
+pub const U: usize = StepWord::U as usize;
 
 // A fresh word r into shares i and j of y.
 fn refresh_pair(i: usize, j: usize, r: u64, cells: &mut [u64])

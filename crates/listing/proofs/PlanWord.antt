@@ -1,4 +1,4 @@
--- The lines of one plan word: those of its translation, into 3,816 words at most, or none where it is turned down. Rests on masking's
+-- The lines of one plan word: those of its translation, into 4,032 words at most, or none where it is turned down. Rests on masking's
 -- counts and shares' answers.
 use mathlib.Core.Path.{_≡_, refl, sym, ap, _∙_}
 use mathlib.Core.Bool.{Bool, true, false, not}

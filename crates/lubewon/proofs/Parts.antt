@@ -3,6 +3,7 @@
 use mathlib.Core.Path.{_≡_}
 use mathlib.Core.List.{List, _∷_, _++_}
 use Prim.Native.Nat.{ℕ, suc, _+_, _-_, _≤_, _<_, min}
+use lib.Dec.{T}
 use lib.ListN.{length, getD, take, drop}
 use mathlib.Core.Bool.{Bool}
 use Rattle.word.specs.declared.step.Step.{Step}
@@ -22,6 +23,7 @@ use Rattle.plain.specs.Laws.{Laws}
 use Rattle.masking.specs.Machine.{Start}
 use Rattle.masking.specs.Foretold.{Accepted}
 use Rattle.masking.specs.Counts.{StepCounts, PlanCounts, Counts}
+use Rattle.masking.specs.Wiped.{holdsAndOrAdd, Wiped}
 use Rattle.masking.specs.Secrecy.{Tape, Pairing, Hidden, Secret}
 use Rattle.masking.specs.Demand3.{EachRun, InARow, Demand3}
 use Rattle.masking.specs.Leaks.{Leak}
@@ -74,7 +76,7 @@ plan-counts : {n : ℕ} {plan : List ℕ} → PlanCounts n plan → PlanCounts n
 plan-counts h = record { words = h .words; tape = h .tape; good = h .good; longest = h .longest }
 
 counts : Counts → Counts
-counts h = record { step = h .step; plan = h .plan; at-2 = h .at-2; at-8 = h .at-8; limit = h .limit }
+counts h = record { step = h .step; plan = h .plan; at-2 = h .at-2; at-8 = h .at-8; limit = h .limit; wiped = h .wiped }
 
 tape : {L : ℕ} {tape : List ℕ} → Tape L tape → Tape L tape
 tape h = record { size = h .size; words = h .words }
@@ -162,7 +164,7 @@ module _ (P tape : List ℕ) (st : State) (b : ℕ) (R : EachRun P tape st b) wh
       → runAnswer P tape st b ≡ answers.done (min b (length P - st .place)) (rands (take b (drop (st .place) P)))
   done = R .else
 
--- a list of runs: the cells and places after it, its sums, joined registers, and tape enough
+-- a list of runs: the cells and places after it, its sums, joined registers, wiped scratch cells, and tape enough
 module _ (n : ℕ) (plan start tape : List ℕ) (place : ℕ) (budgets : List ℕ) (D : InARow n plan start tape place budgets) where
   abbrev P : List ℕ
   P = program n plan
@@ -193,6 +195,22 @@ module _ (n : ℕ) (plan start tape : List ℕ) (place : ℕ) (budgets : List �
 
   foretold : (k : ℕ) → m ≡ length (program n (take k plan)) → t ≡ foretoldTape n (take k plan)
   foretold = D .foretold
+
+  -- AND's scratch cells
+  abbrev Zero : Type 0
+  Zero =
+      ((i : ℕ) → i < n → (getD (after budgets .cells) (256 + i) 0 ≡ 0) × (getD (after budgets .cells) (264 + i) 0 ≡ 0))
+      × (getD (after budgets .cells) 272 0 ≡ 0)
+      × (getD (after budgets .cells) 273 0 ≡ 0)
+
+  zero : Wiped n (after budgets .cells) → Zero
+  zero h = (λ i l. (h .y i l, h .z i l), h .t, h .u)
+
+  wiped-whole : m ≡ length P → T (holdsAndOrAdd plan) → Zero
+  wiped-whole e h = zero (D .wiped-whole e h)
+
+  wiped : (k : ℕ) → m ≡ length (program n (take k plan)) → T (holdsAndOrAdd (take k plan)) → Zero
+  wiped k e h = zero (D .wiped k e h)
 
   enough : foretoldTape n plan ≤ length tape - place → (before rest : List ℕ) (b : ℕ) → budgets ≡ before ++ (b ∷ rest) → runAnswer P tape (after before) b .number ≡ 0
   enough = D .enough

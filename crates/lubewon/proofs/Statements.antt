@@ -224,5 +224,5 @@ module _ (C : Claims) where
   split-call : (word : ℕ) (tape out : List ℕ) → splitAnswer (length out) (length tape) .number ≡ 0 → joinedWord (splitOut word tape out) ≡ word
   split-call = C .split-joins .calls
 
-  pieces : (room : ℕ) → 34344 ≤ room → (input : List ℕ) → piecesFrom 2049 room input 0 ≡ listing input
+  pieces : (room : ℕ) → 36288 ≤ room → (input : List ℕ) → piecesFrom 2049 room input 0 ≡ listing input
   pieces = C .pieces-are-listing

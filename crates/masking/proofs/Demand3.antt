@@ -1,21 +1,24 @@
--- Demand 3, assembled: lists of share runs (InARow), joined results (joined.Plan), counts (Counts) and secrecy (secret.SecretRuns).
-use mathlib.Core.Path.{_≡_, refl, sym, ap, ap₂, _∙_}
+-- Demand 3, assembled: lists of share runs (InARow), joined results (joined.Plan), wiped scratch cells (joined.Wiped), counts (Counts) and secrecy (secret.SecretRuns).
+use mathlib.Core.Path.{_≡_, refl, sym, ap, ap₂, _∙_, subst}
 use mathlib.Core.List.{List}
 use Prim.Native.Nat.{ℕ, _+_, _-_, _≤_}
 use native.Mathlib.Nat.{add-zero, zero-add, add-left-cancel, le-trans, le-of-eq}
 use native.Mathlib.Omega.{arith}
+use lib.Dec.{T}
 use lib.ListN.{length, take, drop, take-append-drop}
-use lib.Seq.{take-at}
+use lib.Seq.{take-at, take-length}
 use Rattle.masking.specs.Translation.{program}
 use Rattle.masking.specs.Foretold.{Accepted, foretoldTape}
 use Rattle.masking.specs.Machine.{exec, rands, Words, Start}
 use Rattle.masking.specs.Unsplit.{joined}
 use Rattle.masking.specs.Runs.{State, due, runAnswer, inARow, wordsDone, tapeUsed}
+use Rattle.masking.specs.Wiped.{holdsAndOrAdd, Wiped}
 use Rattle.masking.specs.Demand3.{begun, InARow, Demand3Holds}
 use Rattle.masking.proofs.emitted.Steps.{program-append, take-accepted}
 use Rattle.masking.proofs.emitted.Counts.{plan-counts}
 use Rattle.masking.proofs.joined.Cells.{drop-words}
 use Rattle.masking.proofs.joined.Plan.{joined-after}
+use Rattle.masking.proofs.joined.Wiped.{wiped-after}
 use Rattle.masking.proofs.InARow.{Reached, each-run, all-reached, place-sum, tape-sum, rands-take, due-rands, done-answer}
 use Rattle.masking.proofs.secret.SecretRuns.{secret}
 
@@ -65,6 +68,13 @@ module _ (n : ℕ) (plan : List ℕ) (A : Accepted n plan) (start tape : List �
       ap (λ a. a .number) (done-answer P tape start p₀ (plan-counts n plan A .longest) (plan-counts n plan A .good) st r b
       (omega (arith, due-rands P (st .place) b, r .tapeAt, l)))
 
+  -- AND's scratch cells
+  wiped : Words tape → (budgets : List ℕ) (k : ℕ) → m budgets ≡ length (program n (take k plan)) → T (holdsAndOrAdd (take k plan))
+      → Wiped n (inARow P tape st₀ budgets .cells)
+  wiped W budgets k e h =
+      subst (Wiped n) (sym (cells-are budgets ∙ ap (λ ws. exec ws (drop p₀ tape) start) (first-words n plan k (m budgets) e)))
+      (wiped-after n plan A start (drop p₀ tape) (S .size) (drop-words tape W p₀) k h)
+
   in-a-row : Words tape → (budgets : List ℕ) → InARow n plan start tape p₀ budgets
   in-a-row W budgets =
       record {
@@ -75,6 +85,9 @@ module _ (n : ℕ) (plan : List ℕ) (A : Accepted n plan) (start tape : List �
         tapeMoved = tape-sum P tape st₀ budgets;
         joins = λ k e r l. ap (λ c. joined n c r) (cells-are budgets ∙ ap (λ ws. exec ws (drop p₀ tape) start) (first-words n plan k (m budgets) e)) ∙ joined-after n plan A start (drop p₀ tape) (S .size) (S .words) (drop-words tape W p₀) k r l;
         foretold = λ k e. used-are budgets ∙ ap rands (first-words n plan k (m budgets) e) ∙ plan-counts n (take k plan) (take-accepted n plan A k) .tape;
+        wiped-whole = λ e h.
+            wiped W budgets (length plan) (e ∙ ap (λ p. length (program n p)) (sym (take-length plan))) (subst (λ p. T (holdsAndOrAdd p)) (sym (take-length plan)) h);
+        wiped = wiped W budgets;
         enough = λ h before rest b e. enough h before b;
       }
 

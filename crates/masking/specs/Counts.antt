@@ -10,7 +10,7 @@ use Rattle.word.specs.Encoding.{programStep, inPlan, inProgram, kindNumber}
 use Rattle.word.specs.Table.{naming}
 use Rattle.word.specs.Layout.{lengthOf, tapeOf, programMax}
 use Rattle.checks.specs.Answers.{firstBad}
-use Rattle.masking.specs.Translation.{translated, program}
+use Rattle.masking.specs.Translation.{scratch, scratchCells, translated, program}
 use Rattle.masking.specs.Foretold.{Accepted, foretoldWords, foretoldTape}
 use Rattle.masking.specs.Machine.{randsOf, rands}
 
@@ -28,15 +28,16 @@ abbrev pub allOf : (Step → Bool) → List Step → Bool
 allOf p [] = true
 allOf p (s ∷ ss) = p s && allOf p ss
 
--- one plan step's translation for n shares: "5n² − 2n words, 2Q tape words" and so on; words of kinds 1..7 and 9; and only cells that the
--- section names
+-- one plan step's translation for n shares: AND's "length becomes 5n² + 2" (document 02, No. 4), "2Q tape words" and so on; words of kinds
+-- 1..7 and 9; and only cells that the section names
 pub record StepCounts (n : ℕ) (s : Step) : Type 0 where
   pub words : length (translated n s) ≡ lengthOf (kindNumber s) n
   pub tape : randsOf (translated n s) ≡ tapeOf (kindNumber s) n
   pub good : T (allOf inProgram (translated n s))
   pub cells : T (allOf (naming (usedCell n)) (translated n s))
 
--- a plan's share program: Measure's counts are those of the words emitted, none is bad, and "0..7,815,168 words" are enough
+-- a plan's share program: Measure's counts are those of the words emitted, none is bad, and "the
+-- longest share program 8,257,536 words" (document 02, No. 4)
 pub record PlanCounts (n : ℕ) (plan : List ℕ) : Type 0 where
   pub words : length (program n plan) ≡ foretoldWords n plan
   pub tape : rands (program n plan) ≡ foretoldTape n plan
@@ -46,8 +47,11 @@ pub record PlanCounts (n : ℕ) (plan : List ℕ) : Type 0 where
 pub record Counts : Type 0 where
   pub step : (n : ℕ) → 2 ≤ n → n ≤ 8 → (s : Step) → T (inPlan s) → StepCounts n s
   pub plan : (n : ℕ) (plan : List ℕ) → Accepted n plan → PlanCounts n plan
-  -- "At n = 2: AND 16 words and 2 tape words, ADD 234 and 24. At n = 8: 304 and 56, 3,816 and 672."
-  pub at-2 : (lengthOf 3 2 ≡ 16) × (tapeOf 3 2 ≡ 2) × (lengthOf 8 2 ≡ 234) × (tapeOf 8 2 ≡ 24)
-  pub at-8 : (lengthOf 3 8 ≡ 304) × (tapeOf 3 8 ≡ 56) × (lengthOf 8 8 ≡ 3816) × (tapeOf 8 8 ≡ 672)
-  -- "A share program has 0..7,815,168 words"
-  pub limit : programMax ≡ 7815168
+  -- document 01's figures with AND's and ADD's words by document 02, No. 4: at n = 2 AND 22 words and 2 tape words, ADD 306 and 24; at n = 8
+  -- 322 and 56, 4,032 and 672
+  pub at-2 : (lengthOf 3 2 ≡ 22) × (tapeOf 3 2 ≡ 2) × (lengthOf 8 2 ≡ 306) × (tapeOf 8 2 ≡ 24)
+  pub at-8 : (lengthOf 3 8 ≡ 322) × (tapeOf 3 8 ≡ 56) × (lengthOf 8 8 ≡ 4032) × (tapeOf 8 8 ≡ 672)
+  -- "the longest share program 8,257,536 words"
+  pub limit : programMax ≡ 8257536
+  -- "those 2n + 2 cells"
+  pub wiped : (n : ℕ) → length (scratchCells scratch n) ≡ 2 * n + 2

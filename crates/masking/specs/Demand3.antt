@@ -1,9 +1,10 @@
--- Demand 3: "All this is one theorem about the list as a whole" (document 01, "Share runs in a row"). It starts from a plan that Translate
--- accepts for n, the program being just the words of its translation, any 512 cells, program place 0, and any tape with any place up to
--- its length.
+-- Demand 3: "All this is one theorem about the list as a whole" (document 01, "Share runs in a row"); document 02's No. 4 adds the scratch
+-- cells to it. It starts from a plan that Translate accepts for n, the program being just the words of its translation, any 512 cells,
+-- program place 0, and any tape with any place up to its length.
 use mathlib.Core.Path.{_≡_}
 use mathlib.Core.List.{List, _∷_, _++_}
 use Prim.Native.Nat.{ℕ, _+_, _-_, _≤_, _<_, min}
+use lib.Dec.{T}
 use lib.ListN.{length, getD, take, drop}
 use Rattle.checks.specs.Answers.{done, refused}
 use Rattle.plain.specs.Machine.{run}
@@ -12,6 +13,7 @@ use Rattle.masking.specs.Foretold.{Accepted, foretoldTape}
 use Rattle.masking.specs.Machine.{exec, rands, Words, Start}
 use Rattle.masking.specs.Unsplit.{joined, unsplit}
 use Rattle.masking.specs.Runs.{State, standing, due, runAnswer, moved, inARow, wordsDone, tapeUsed}
+use Rattle.masking.specs.Wiped.{holdsAndOrAdd, Wiped}
 use Rattle.masking.specs.Secrecy.{Secret}
 
 -- one run from where the last one left off: "turned down exactly when its steps hold more RAND than tape remains (6), and then moves
@@ -56,6 +58,10 @@ module _ (n : ℕ) (plan start tape : List ℕ) (tapePlace : ℕ) where
     pub joins : (k : ℕ) → m budgets ≡ length (program n (take k plan))
         → (r : ℕ) → r < 32 → joined n (left budgets .cells) r ≡ getD (run (take k plan) (unsplit n start)) r 0
     pub foretold : (k : ℕ) → m budgets ≡ length (program n (take k plan)) → used budgets ≡ foretoldTape n (take k plan)
+    -- document 02, No. 4: AND's scratch cells are zero after the whole program of a plan that holds AND or ADD; and so they are wherever the
+    -- words done translate the plan's first k words and one of these is AND or ADD
+    pub wiped-whole : m budgets ≡ length words → T (holdsAndOrAdd plan) → Wiped n (left budgets .cells)
+    pub wiped : (k : ℕ) → m budgets ≡ length (program n (take k plan)) → T (holdsAndOrAdd (take k plan)) → Wiped n (left budgets .cells)
     -- over a tape as long as foretold no run is turned down
     pub enough : foretoldTape n plan ≤ length tape - tapePlace
         → (before rest : List ℕ) (b : ℕ) → budgets ≡ before ++ (b ∷ rest) → runAnswer words tape (left before) b .number ≡ 0

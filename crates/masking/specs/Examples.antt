@@ -12,13 +12,14 @@ pub record TranslationExamples : Type 0 where
   pub listed : program 2 (0x20080001 ∷ []) ≡ 0x20080001 ∷ 0x20884021 ∷ []
   pub share-0-apart : translated 2 (Const 3 700) ≡ Const 3 700 ∷ Const 35 0 ∷ []
   pub inverted-once : translated 2 (Not 1 0) ≡ Not 1 0 ∷ Shl 33 32 0 ∷ []
-  -- AND 1 1 1: y, refreshed; z, with both cross products of the pair; then d
+  -- AND 1 1 1: y, refreshed; z, with both cross products of the pair; then d; then the scratch cells wiped
   pub and-alike : translated 2 (And 1 1 1)
       ≡ Shl 256 1 0 ∷ Shl 257 33 0
       ∷ Rand 272 ∷ Xor 256 256 272 ∷ Xor 257 257 272
       ∷ And 264 1 256 ∷ And 265 33 257
       ∷ Rand 272 ∷ Xor 264 264 272 ∷ And 273 1 257 ∷ Xor 272 272 273 ∷ And 273 33 256 ∷ Xor 272 272 273 ∷ Xor 265 265 272
-      ∷ Shl 1 264 0 ∷ Shl 33 265 0 ∷ []
-  -- "At n = 2: .. ADD 234 and 24."
-  pub add-words : length (translated 2 (Add 2 0 1)) ≡ 234
+      ∷ Shl 1 264 0 ∷ Shl 33 265 0
+      ∷ Const 256 0 ∷ Const 257 0 ∷ Const 264 0 ∷ Const 265 0 ∷ Const 272 0 ∷ Const 273 0 ∷ []
+  -- ADD at n = 2
+  pub add-words : length (translated 2 (Add 2 0 1)) ≡ 306
   pub add-tape : randsOf (translated 2 (Add 2 0 1)) ≡ 24

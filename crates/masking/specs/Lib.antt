@@ -1,12 +1,13 @@
 -- Share programs: the translation (Translation), the counts foretold (Foretold), the share machine (Machine), share runs in a row
--- (Runs), what shares join to (Unsplit), and the statements proved of them: counts (Counts), secrecy (Secrecy), demand 3 (Demand3), that
--- AND needs its refresh (Leaks) and NOT and CONST a share apart (EveryShare), and worked examples (Examples).
+-- (Runs), what shares join to (Unsplit), and the statements proved of them: counts (Counts), wiped scratch cells (Wiped), secrecy (Secrecy),
+-- demand 3 (Demand3), that AND needs its refresh (Leaks) and NOT and CONST a share apart (EveryShare), and worked examples (Examples).
 pub mod Translation
 pub mod Foretold
 pub mod Machine
 pub mod Runs
 pub mod Unsplit
 pub mod Counts
+pub mod Wiped
 pub mod Secrecy
 pub mod Demand3
 pub mod Leaks

@@ -1,5 +1,5 @@
--- Document 01's section "Translation for n shares", in its order. "Steps below stand in emission order, shares rising from 0, pairs
--- i < j by i and then j."
+-- Document 01's section "Translation for n shares", in its order, with document 02's No. 4: AND wipes its scratch cells. "Steps below stand
+-- in emission order, shares rising from 0, pairs i < j by i and then j."
 use mathlib.Core.Bool.{cond}
 use mathlib.Core.List.{List, [], _∷_, _++_, map}
 use Prim.Native.Nat.{ℕ, zero, suc, _+_, _-_}
@@ -57,6 +57,14 @@ pub record Scratch : Type 0 where
 abbrev pub scratch : Scratch
 scratch = record { y = cellY; z = cellZ; t = cellT; u = cellU }
 
+-- AND's scratch cells for n shares, as document 02, No. 4, lists them: "y_0.., z_0.., t and u, in that order"
+abbrev pub scratchCells : Scratch → ℕ → List ℕ
+scratchCells c n = map (c .y) (shares n) ++ (map (c .z) (shares n) ++ (c .t ∷ c .u ∷ []))
+
+-- "CONST 0 into" each cell of a list
+abbrev pub wiping : List ℕ → List Step
+wiping ks = map (λ k. Const k 0) ks
+
 -- "For each pair: RAND t (cell 272); y_i XOR t; y_j XOR t."
 abbrev pub refresh : Scratch → List Pair → List Step
 refresh c [] = []
@@ -85,9 +93,9 @@ andSteps c n d a b =
     ++ (products c a (pairs (shares n))
     ++ map (λ i. Shl (d i) (c .z i) 0) (shares n))))
 
--- the translation of AND
+-- "The translation of AND ends with CONST 0 into" its scratch cells.
 unfoldable pub andBlock : Scratch → ℕ → (ℕ → ℕ) → (ℕ → ℕ) → (ℕ → ℕ) → List Step
-andBlock c n d a b = andSteps c n d a b
+andBlock c n d a b = andSteps c n d a b ++ wiping (scratchCells c n)
 
 -- share i's step of a step on registers. "CONST: share 0 gets k, the others 0. NOT: share 0 inverted, the others copied by SHL 0. XOR, SHL,
 -- SHR, SPREAD: once per share." AND and ADD have blocks of their own and RAND is no step of plans: what stands there is not used.

@@ -1,5 +1,5 @@
-// Share runs in a row with odd budgets against one run in a go, and joined registers against the plain run, for a plan of every kind and
-// n = 2..8. Writes for each n the counts and what differs.
+// Share runs in a row with odd budgets against one run in a go, joined registers against the plain run, and AND's scratch cells against
+// zero, for a plan of every kind and n = 2..8. Writes for each n the counts, what differs and what is left.
 use libc::STDOUT_FILENO;
 
 // CONST, XOR, AND, NOT, SHL, SHR, SPREAD and ADD, with distinct and with equal registers.
@@ -60,12 +60,34 @@ fn noted(label: &[u8], n: u64) {
     io::print_decimal(STDOUT_FILENO, n);
 }
 
-fn line(n: usize, words: usize, tape: usize, split: u64, plain: u64) {
+// Whether a cell is AND's scratch for n shares: y and z from 256 and 264 on, t and u at 272 and 273.
+fn is_scratch(at: usize, n: usize) -> bool {
+    if at < 256 {
+        return false;
+    }
+    if at < 272 { at % 8 < n } else { at < 274 }
+}
+
+// How many of AND's scratch cells are not zero.
+fn left_over(cells: &[u64], n: usize) -> u64 {
+    let mut count = 0;
+    for at in 0..cells.len() {
+        if is_scratch(at, n) {
+            if cells[at] != 0 {
+                count = std::num::wrapping_add_u64(count, 1);
+            }
+        }
+    }
+    count
+}
+
+fn line(n: usize, words: usize, tape: usize, split: u64, plain: u64, left: u64) {
     noted(b"n ", n as u64);
     noted(b" words ", words as u64);
     noted(b" tape ", tape as u64);
     noted(b" cells that differ ", split);
     noted(b" registers that differ ", plain);
+    noted(b" scratch cells left ", left);
     io::write_all(STDOUT_FILENO, b"\n");
 }
 
@@ -100,6 +122,7 @@ fn compare(n: usize, program: &[u32], tape: &[u64], words: usize) {
         answer.tape,
         split_off(n, program, tape, &whole),
         plain_off(n, &whole),
+        left_over(&whole, n),
     );
 }
 
@@ -114,7 +137,7 @@ fn translated(n: usize, tape: &[u64], out: &mut [u32]) {
 fn main() {
     let mut tape = [0u64; 2000];
     drawn::fill(77, &mut tape);
-    let mut buffer = [0u32; 9000];
+    let mut buffer = [0u32; 10000];
     for n in 2..9usize {
         translated(n, &tape, &mut buffer);
     }

@@ -1,7 +1,7 @@
 -- Bounds: of a share count, and on the counts per kind, where a share count below 256 keeps squares and pairs small.
-use Prim.Native.Nat.{ℕ, zero, suc, _-_, _*_, _/_, _≤_, _<_}
-use native.Mathlib.Nat.{mul-le-mul-left, mul-one, le-trans, le-of-eq}
-use mathlib.Core.Path.{_≡_, refl, sym}
+use Prim.Native.Nat.{ℕ, _+_, _-_, _*_, _/_, _≤_, _<_}
+use native.Mathlib.Nat.{mul-le-mul-left}
+use mathlib.Core.Path.{_≡_, refl}
 use mathlib.Core.Bool.{Bool, true, false, cond, _&&_}
 use native.Mathlib.Omega.{arith}
 use lib.Dec.{eqb, leb}
@@ -13,10 +13,6 @@ square-lt n h =
     let l : n ≤ 255 = omega arith in
     let a : n * n ≤ n * 255 = mul-le-mul-left n l in
     omega arith
-
-pub le-square : (n : ℕ) → n ≤ n * n
-le-square zero = omega arith
-le-square (suc n) = le-trans (le-of-eq (sym (mul-one (suc n)))) (mul-le-mul-left (suc n) (omega arith))
 
 pub pairs-lt : (n : ℕ) → n < 256 → n * (n - 1) < 65536
 pairs-lt n h =
@@ -39,7 +35,7 @@ module _ (n : ℕ) (most : n ≤ 8) where
   unfolding lengthOf
   length-le k = by (eqb k 3) (eqb k 8) (mul-le-mul-left n most)
     where
-      by : (p q : Bool) → n * n ≤ n * 8 → cond p (5 * (n * n) - 2 * n) (cond q (60 * (n * n) - 3 * n) n) ≤ wordMax
+      by : (p q : Bool) → n * n ≤ n * 8 → cond p (5 * (n * n) + 2) (cond q (60 * (n * n) + 21 * n + 24) n) ≤ wordMax
       by true q h = omega arith
       by false true h = omega arith
       by false false h = omega arith

@@ -36,12 +36,13 @@ helper i h = 288 + 8 * i + h
 abbrev pub pairCount : ℕ → ℕ
 pairCount n = n * (n - 1) / 2
 
--- share words of AND, "5n² − 2n words", and of ADD, "60n² − 3n words"
+-- share words of AND and of ADD, by document 02, No. 4: "Its length becomes 5n² + 2, ADD's 60n² + 21n + 24" (document 01, where AND does
+-- not wipe its scratch, has 5n² − 2n and 60n² − 3n)
 abbrev pub andLength : ℕ → ℕ
-andLength n = 5 * (n * n) - 2 * n
+andLength n = 5 * (n * n) + 2
 
 abbrev pub addLength : ℕ → ℕ
-addLength n = 60 * (n * n) - 3 * n
+addLength n = 60 * (n * n) + 21 * n + 24
 
 -- share words of a plan word by its kind; the others "Each n words". No plan word has a kind outside 1 to 8; n stands there too.
 unfoldable pub lengthOf : ℕ → ℕ → ℕ
@@ -55,7 +56,8 @@ tapeOf k n = cond (eqb k 3) (2 * pairCount n) (cond (eqb k 8) (24 * pairCount n)
 abbrev pub planMax : ℕ
 planMax = 2048
 
--- the most share words that a plan word gives, and that a plan gives: "A share program has 0..7,815,168 words"
+-- the most share words that a plan word gives, and that a plan gives: "the longest share program 8,257,536 words" (document 02, No. 4, for
+-- document 01's "A share program has 0..7,815,168 words")
 abbrev pub wordMax : ℕ
 wordMax = addLength mostShares
 

@@ -60,7 +60,7 @@ impl StepWord {
     // Limits: of a plan, of one plan word's share words (ADD's for eight shares), and of a share program.
     pub const PLAN_MAX: usize = 2048;
 
-    pub const WORD_MAX: usize = 60 * (8 * 8) - 3 * 8;
+    pub const WORD_MAX: usize = 60 * (8 * 8) + 21 * 8 + 24;
 
     pub const PROGRAM_MAX: usize = StepWord::PLAN_MAX * StepWord::WORD_MAX;
 
@@ -232,8 +232,8 @@ impl StepWord {
     {
         let n = n as usize;
         match kind {
-            StepWord::AND => 5 * (n * n) - 2 * n,
-            StepWord::ADD => 60 * (n * n) - 3 * n,
+            StepWord::AND => 5 * (n * n) + 2,
+            StepWord::ADD => 60 * (n * n) + 21 * n + 24,
             _ => n,
         }
     }

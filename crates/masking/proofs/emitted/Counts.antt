@@ -18,6 +18,7 @@ use Rattle.masking.specs.Foretold.{Accepted, foretoldWords, foretoldTape
 use Rattle.masking.specs.Machine.{takes, randsOf}
 use Rattle.masking.specs.Counts.{StepCounts, PlanCounts, Counts}
 use Rattle.masking.proofs.emitted.Tests.{All}
+use Rattle.masking.proofs.emitted.Wiping.{scratch-count}
 use Rattle.masking.proofs.emitted.Good.{translated-good, translated-used}
 use Rattle.masking.proofs.emitted.Steps.{PlanWord, PlanWords, plan-words, stepsFor, planSteps, blocks-append, program-words, program-steps, plan-good}
 
@@ -139,4 +140,4 @@ plan-counts n plan A =
 
 pub counts : Counts
 unfolding lengthOf tapeOf
-counts = record { step = step-counts; plan = plan-counts; at-2 = (refl, refl, refl, refl); at-8 = (refl, refl, refl, refl); limit = refl }
+counts = record { step = step-counts; plan = plan-counts; at-2 = (refl, refl, refl, refl); at-8 = (refl, refl, refl, refl); limit = refl; wiped = scratch-count scratch }

@@ -9,9 +9,10 @@ use Rattle.word.specs.declared.step.Step.the-variants.{Const, Xor, And, Not, Sh
 use Rattle.word.specs.Encoding.{numberFits, kindNumber, within}
 use Rattle.word.specs.Table.{dest, reads, Each}
 use Rattle.word.proofs.Ranges.{within-cells, within-number}
-use Rattle.masking.specs.Translation.{shares, Pair, pairs, shareCell, cellsOf, firstOther, Scratch, refresh, products, andSteps, andBlock, block, blocks}
+use Rattle.masking.specs.Translation.{shares, Pair, pairs, shareCell, cellsOf, firstOther, Scratch, refresh, products, andSteps, scratchCells, wiping, andBlock, block, blocks}
 use Rattle.masking.proofs.emitted.Tests.{All, all-append, all-from}
 use Rattle.masking.proofs.emitted.Pairs.{Apart, apart-pairs}
+use Rattle.masking.proofs.emitted.Wiping.{each-scratch}
 
 -- cells that Q names for n shares of w registers
 pub record Names (n w : ℕ) (c : Scratch) (Q : ℕ → Type 0) : Type 0 where
@@ -64,9 +65,15 @@ module _ (n w : ℕ) (c : Scratch) (Q : ℕ → Type 0) (N : Names n w c Q) (P :
       (all-append P (products c (cellsOf a) (pairs (shares n))) _ (products-all a la (pairs (shares n)) (apart-pairs n))
       (each _ (λ i l. K (Shl (shareCell i d) (c .z i) 0) tt (N .share i d l ld, (N .z i l, tt)) tt)))))
 
+  wiping-all : (ks : List ℕ) → Each Q ks → All P (wiping ks)
+  wiping-all [] h = tt
+  wiping-all (k ∷ ks) h = (K (Const k 0) tt (h .0, tt) tt, wiping-all ks (h .1))
+
   and-all : (d a b : ℕ) → d < w → a < w → b < w → All P (andBlock c n (cellsOf d) (cellsOf a) (cellsOf b))
   unfolding andBlock
-  and-all = steps-all
+  and-all d a b ld la lb =
+      all-append P (andSteps c n (cellsOf d) (cellsOf a) (cellsOf b)) _ (steps-all d a b ld la lb)
+      (wiping-all (scratchCells c n) (each-scratch Q c n (N .y) (N .z) (N .t) (N .u)))
 
   -- registers in range have their shares among the cells
   shared : (i : ℕ) → i < n → (rs : List ℕ) → Each (λ r. r < w) rs → Each Q (map (shareCell i) rs)

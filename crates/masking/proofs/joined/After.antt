@@ -1,5 +1,5 @@
 -- What holds after a list of steps whatever tape words they take, and its rules: a run's end, weakening, lists in a row, and words.
-use mathlib.Core.Path.{_≡_}
+use mathlib.Core.Path.{_≡_, refl, _∙_}
 use mathlib.Core.List.{List, [], _∷_, _++_}
 use Prim.Native.Nat.{ℕ, _^_, _<_}
 use lib.ListN.{getD, drop}
@@ -7,7 +7,7 @@ use Rattle.word.specs.declared.step.Step.{Step}
 use Rattle.word.specs.Table.{dest, becomes}
 use Rattle.masking.specs.Machine.{takes, Words}
 use Rattle.masking.proofs.emitted.Tests.{All}
-use Rattle.masking.proofs.joined.Cells.{Cells, upd, WordCells, upd-words, stepOn, stepsOn, Fits, drop-words}
+use Rattle.masking.proofs.joined.Cells.{Cells, upd, upd-other, WordCells, upd-words, stepOn, stepsOn, Fits, drop-words}
 
 -- every step may meet any tape word; only RAND looks at it
 abbrev pub after : List Step → (Cells → Type 0) → Cells → Type 0
@@ -38,6 +38,18 @@ after-words (s ∷ ss) Ψ c f w h = λ t l. after-words ss Ψ (stepOn s t c) (f 
 -- a cell that no step writes
 abbrev pub Off : ℕ → List Step → Type 0
 Off k ss = All (λ s. k ≡ dest s → ⊥) ss
+
+pub after-off : (ss : List Step) (c : Cells) → after ss (λ e. (k : ℕ) → Off k ss → e k ≡ c k) c
+after-off [] c = λ k o. refl
+after-off (s ∷ ss) c =
+    λ t l.
+    after-mono ss (λ e. (k : ℕ) → Off k ss → e k ≡ stepOn s t c k) _ (stepOn s t c)
+    (λ e h k o. h k (o .1) ∙ upd-other c (dest s) (becomes s c t) k (o .0)) (after-off ss (stepOn s t c))
+
+-- whatever is asked, a run ends
+pub after-any : (ss : List Step) (c : Cells) → after ss (λ e. Unit {0}) c
+after-any [] c = tt
+after-any (s ∷ ss) c = λ t l. after-any ss (stepOn s t c)
 
 -- a step whose word is known
 pub after-known : (s : Step) (ss : List Step) (Ψ : Cells → Type 0) (c : Cells) (t v : ℕ) → becomes s c t ≡ v

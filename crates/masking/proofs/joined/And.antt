@@ -9,15 +9,16 @@ use Rattle.bits.proofs.Shift.{shl-zero}
 use Rattle.word.specs.declared.step.Step.{Step}
 use Rattle.word.specs.declared.step.Step.the-variants.{And, Shl}
 use Rattle.word.proofs.Becomes.{becomes-lt}
-use Rattle.masking.specs.Translation.{shares, pairs, shareCell, Scratch, refresh, products, andSteps, andBlock, cellsOf}
+use Rattle.masking.specs.Translation.{shares, pairs, shareCell, Scratch, refresh, products, andSteps, scratchCells, wiping, andBlock, cellsOf}
 use Rattle.masking.specs.Unsplit.{xorOver}
 use Rattle.masking.proofs.emitted.Pairs.{apart-pairs}
 use Rattle.masking.proofs.emitted.Places.{Places}
 use Rattle.masking.proofs.emitted.Ranges.{Names, HoldsOn, refresh-all, products-all, each}
 use Rattle.masking.proofs.joined.Cells.{Cells, upd, upd-other, upd-at, WordCells, Fits}
-use Rattle.masking.proofs.joined.After.{after, after-mono, after-then, after-words}
+use Rattle.masking.proofs.joined.After.{after, after-mono, after-then, after-words, Off, after-off}
 use Rattle.masking.proofs.joined.Sums.{sum-same, crosses, crosses-same, all-products}
 use Rattle.masking.proofs.joined.Once.{Written, each-after, joinOf, Sets, each-joins}
+use Rattle.masking.proofs.joined.Zeroed.{wiping-off, share-apart}
 use Rattle.masking.proofs.joined.Refresh.{Refreshed, refresh-joins}
 use Rattle.masking.proofs.joined.Products.{Multiplied, products-joins}
 
@@ -125,6 +126,17 @@ module _ (n w : ℕ) (C : Scratch) (L : Places n w C) (d a b : ℕ) (ld : d < w)
       Ψ : Cells → Type 0
       Ψ = Sets n w c d (andW (joinOf n c a) (joinOf n c b))
 
+  -- wiping its scratch cells leaves the shares
   pub and-joins : (c : Cells) → WordCells c → after (andBlock C n (cellsOf d) (cellsOf a) (cellsOf b)) (Sets n w c d (andW (joinOf n c a) (joinOf n c b))) c
   unfolding andBlock
-  and-joins = steps-join
+  and-joins c words =
+      let W = wiping (scratchCells C n) in
+      after-then (andSteps C n (cellsOf d) (cellsOf a) (cellsOf b)) W _ Ψ c (steps-join c words) (λ e h.
+      after-mono W (λ f. (k : ℕ) → Off k W → f k ≡ e k) Ψ e
+      (λ f q r l.
+      sum-same n (λ i. f (shareCell i r)) (λ i. e (shareCell i r)) (λ i m. q (shareCell i r) (wiping-off (shareCell i r) (scratchCells C n) (share-apart n w C L i r m l)))
+      ∙ h r l)
+      (after-off W e))
+    where
+      Ψ : Cells → Type 0
+      Ψ = Sets n w c d (andW (joinOf n c a) (joinOf n c b))

@@ -10,17 +10,18 @@ use lib.ListN.{length, length-append}
 use Rattle.bits.specs.Ops.{xorW, notW, shlW, shrW, spreadW}
 use Rattle.word.specs.declared.step.Step.{Step}
 use Rattle.word.specs.declared.step.Step.the-variants.{Const, Xor, And, Not, Shl, Shr, Spread, Add, Rand}
-use Rattle.word.specs.Table.{dest, reads}
-use Rattle.masking.specs.Translation.{Scratch, shareCell, shares, firstOther, andBlock, block, blocks, cellsOf}
+use Rattle.word.specs.Table.{dest, reads, Each}
+use Rattle.masking.specs.Translation.{Scratch, shareCell, shares, firstOther, andSteps, scratchCells, wiping, andBlock, block, blocks, cellsOf}
 use Rattle.word.proofs.Ranges.{both}
 use Rattle.masking.proofs.emitted.Places.{Places}
-use Rattle.masking.proofs.joined.Cells.{Cells}
+use Rattle.masking.proofs.emitted.Wiping.{Aside, scratch-aside}
+use Rattle.masking.proofs.joined.Cells.{Cells, upd}
 use Rattle.masking.proofs.secret.Acts.{write, act, acts}
-use Rattle.masking.proofs.secret.Wp.{Marks, wp, wp-mono}
+use Rattle.masking.proofs.secret.Wp.{Marks, next, wp, wp-mono, wp-then, past}
 use Rattle.masking.proofs.secret.Meeting.{In, in-shares, share-lt}
-use Rattle.masking.proofs.secret.Sets.{has, has-left, has-right, count}
+use Rattle.masking.proofs.secret.Sets.{has, has-left, has-right, count, count-then}
 use Rattle.masking.proofs.secret.Assigned.{marked, asked-in, marked-count}
-use Rattle.masking.proofs.secret.Registers.{Agreed, adds, fewer, per-share}
+use Rattle.masking.proofs.secret.Registers.{Agreed, adds, fewer, past-write, per-share}
 use Rattle.masking.proofs.secret.AndMarked.{setW, size-W, and-marked}
 use Rattle.masking.proofs.secret.Reading.{readable, readable-parts, reading}
 use Rattle.masking.proofs.secret.Gadgets.{Gadget, row, Ready}
@@ -131,6 +132,14 @@ module _ (n w : ℕ) (sc : Scratch) (L : Places n w sc) where
         hides = λ m S R h small c c′ g. once-hides s p m S R h c c′ g;
       }
 
+  -- CONST 0 writes the same word in both runs, and into no share
+  wiping-hides : (ks : List ℕ) → Each (Aside n w) ks → (m : Marks) (R S : ℕ → Bool) (c c′ : Cells) → Agreed n w R S c c′
+      → wp m (acts (wiping ks)) (Agreed n w R S) c c′
+  wiping-hides [] a m R S c c′ g = g
+  wiping-hides (k ∷ ks) a m R S c c′ g =
+      (λ x. refl, wiping-hides ks (a .1) (next m) R S (upd c k 0) (upd c′ k 0) (past-write n w R S c c′ k 0 0 (a .0) g))
+
+  -- AND: what its steps ask for, and nothing for the wiping
   and-hides : (d a b : ℕ) (m : Marks) (S : List ℕ) (R : ℕ → Bool) → T (readable w R (And d a b)) → length S + count m (acts (andBlock sc n (cellsOf d) (cellsOf a) (cellsOf b))) < n
       → (c c′ : Cells) → Agreed n w R (has (setW sc n d a b m S)) c c′ → wp m (acts (andBlock sc n (cellsOf d) (cellsOf a) (cellsOf b))) (Agreed n w (adds d R) (has S)) c c′
   unfolding andBlock
@@ -138,11 +147,16 @@ module _ (n w : ℕ) (sc : Scratch) (L : Places n w sc) where
       let e = readable-parts w R (And d a b) h in
       let ka = e .1 a (inl refl) in
       let kb = e .1 b (inr (inl refl)) in
-      and-marked n w sc L d a b m S R (e .0) (ka .0) (kb .0) (ka .1) (kb .1) small c c′ g
+      let P = andSteps sc n (cellsOf d) (cellsOf a) (cellsOf b) in
+      wp-then m P (wiping (scratchCells sc n)) (Agreed n w (adds d R) (has S)) (Agreed n w (adds d R) (has S)) c c′
+      (and-marked n w sc L d a b m S R (e .0) (ka .0) (kb .0) (ka .1) (kb .1) (omega (arith, count-then m P (wiping (scratchCells sc n)))) c c′ g)
+      (wiping-hides (scratchCells sc n) (scratch-aside n w sc L) (past (acts P) m) (adds d R) (has S))
 
   and-size : (d a b : ℕ) (m : Marks) (S : List ℕ) → length (setW sc n d a b m S) ≤ length S + count m (acts (andBlock sc n (cellsOf d) (cellsOf a) (cellsOf b)))
   unfolding andBlock
-  and-size = size-W sc n
+  and-size d a b m S =
+      let P = andSteps sc n (cellsOf d) (cellsOf a) (cellsOf b) in
+      omega (arith, size-W sc n d a b m S, count-then m P (wiping (scratchCells sc n)))
 
   abbrev product : ℕ → ℕ → ℕ → Gadget n w
   product d a b =

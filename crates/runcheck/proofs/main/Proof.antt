@@ -7,7 +7,7 @@ use Rattle.runcheck.proofs.main.Statement.{statement}
 use Rattle.runcheck.proofs.main.Tie as tie
 
 abbrev Inv-loop : tie.InvT-loop
-Inv-loop tape buffer₀ n₀ buffer n = (n ≤ 9) × (length buffer ≡ 9000)
+Inv-loop tape buffer₀ n₀ buffer n = (n ≤ 9) × (length buffer ≡ 10000)
 
 abbrev μ-loop : tie.MeasureT-loop
 μ-loop tape buffer₀ n₀ buffer n = 9 - n

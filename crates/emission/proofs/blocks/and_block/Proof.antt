@@ -1,72 +1,32 @@
--- `emission::blocks::and_block` meets its contract.
+-- `emission::blocks::and_block` meets its contract: AND's steps, then the wiping.
 use borrow.Author.Needs.{needs}
 use Rattle.emission.proofs.Parts.{start, renamed, part, room, room-last, last}
-use Rattle.emission.proofs.Laid.{and-parts}
+use Rattle.emission.proofs.Laid.{and-wiped}
 use Rattle.emission.proofs.blocks.and_block.Statement.{statement}
 use Rattle.emission.proofs.blocks.and_block.Tie as tie
 
-each-share-requires : tie.Need-each-share-requires
-each-share-requires c κs = (
-  c .before .before .pre .0 .1 .1 .0,
-  let l₀ = renamed _ _ _ (and-parts (c .before .before .args .n) (c .before .before .args .d) (c .before .before .args .a) (c .before .before .args .b)) (start _ _ _) in
-      room _ _ l₀ (c .before .before .pre .1),
-)
+and-steps-requires : tie.Need-and-steps-requires
+and-steps-requires c κs =
+    let g = c .before .before .args in
+    (c .before .before .pre .0, room _ _ (renamed _ _ _ (and-wiped (g .n) (g .d) (g .a) (g .b)) (start _ _ _)) (c .before .before .pre .1))
 
-all-pairs-requires : tie.Need-all-pairs-requires
-all-pairs-requires c κs = (
-  tt,
-  let l₀ = renamed _ _ _ (and-parts (c .before .before .before .before .before .before .args .n) (c .before .before .before .before .before .before .args .d) (c .before .before .before .before .before .before .args .a) (c .before .before .before .before .before .before .args .b)) (start _ _ _) in
-      let l₁ = part _ _ l₀ (c .before .before .before .each-share .ensures) in
-      room _ _ l₁ (c .before .before .before .before .before .before .pre .1),
-)
-
-each-share-requires-2 : tie.Need-each-share-requires-2
-each-share-requires-2 c κs = (
-  c .before .before .before .before .before .before .before .before .before .before .pre .0 .1 .0,
-  let l₀ = renamed _ _ _ (and-parts (c .before .before .before .before .before .before .before .before .before .before .args .n) (c .before .before .before .before .before .before .before .before .before .before .args .d) (c .before .before .before .before .before .before .before .before .before .before .args .a) (c .before .before .before .before .before .before .before .before .before .before .args .b)) (start _ _ _) in
-      let l₁ = part _ _ l₀ (c .before .before .before .before .before .before .before .each-share .ensures) in
-      let l₂ = part _ _ l₁ (c .before .before .before .all-pairs .ensures) in
-      room _ _ l₂ (c .before .before .before .before .before .before .before .before .before .before .pre .1),
-)
-
-all-pairs-requires-2 : tie.Need-all-pairs-requires-2
-all-pairs-requires-2 c κs = (
-  c .before .before .before .before .before .before .before .before .before .before .before .before .before .before .pre .0 .1 .0,
-  let l₀ = renamed _ _ _ (and-parts (c .before .before .before .before .before .before .before .before .before .before .before .before .before .before .args .n) (c .before .before .before .before .before .before .before .before .before .before .before .before .before .before .args .d) (c .before .before .before .before .before .before .before .before .before .before .before .before .before .before .args .a) (c .before .before .before .before .before .before .before .before .before .before .before .before .before .before .args .b)) (start _ _ _) in
-      let l₁ = part _ _ l₀ (c .before .before .before .before .before .before .before .before .before .before .before .each-share .ensures) in
-      let l₂ = part _ _ l₁ (c .before .before .before .before .before .before .before .all-pairs .ensures) in
-      let l₃ = part _ _ l₂ (c .before .before .before .each-share2 .ensures) in
-      room _ _ l₃ (c .before .before .before .before .before .before .before .before .before .before .before .before .before .before .pre .1),
-)
-
-each-share-requires-3 : tie.Need-each-share-requires-3
-each-share-requires-3 c κs = (
-  c .before .before .before .before .before .before .before .before .before .before .before .before .before .before .before .before .before .before .pre .0 .0,
-  let l₀ = renamed _ _ _ (and-parts (c .before .before .before .before .before .before .before .before .before .before .before .before .before .before .before .before .before .before .args .n) (c .before .before .before .before .before .before .before .before .before .before .before .before .before .before .before .before .before .before .args .d) (c .before .before .before .before .before .before .before .before .before .before .before .before .before .before .before .before .before .before .args .a) (c .before .before .before .before .before .before .before .before .before .before .before .before .before .before .before .before .before .before .args .b)) (start _ _ _) in
-      let l₁ = part _ _ l₀ (c .before .before .before .before .before .before .before .before .before .before .before .before .before .before .before .each-share .ensures) in
-      let l₂ = part _ _ l₁ (c .before .before .before .before .before .before .before .before .before .before .before .all-pairs .ensures) in
-      let l₃ = part _ _ l₂ (c .before .before .before .before .before .before .before .each-share2 .ensures) in
-      let l₄ = part _ _ l₃ (c .before .before .before .all-pairs2 .ensures) in
-      room-last l₄ (c .before .before .before .before .before .before .before .before .before .before .before .before .before .before .before .before .before .before .pre .1),
-)
+wiping-requires : tie.Need-wiping-requires
+wiping-requires c κs =
+    let g = c .before .before .before .before .before .before .args in
+    let l₁ = part _ _ (renamed _ _ _ (and-wiped (g .n) (g .d) (g .a) (g .b)) (start _ _ _)) (c .before .before .before .and-steps .ensures) in
+    room-last l₁ (c .before .before .before .before .before .before .pre .1)
 
 returns : tie.Need-returns
 returns c =
-    let l₀ = renamed _ _ _ (and-parts (c .before .before .before .before .before .before .before .before .before .before .before .before .before .before .before .before .before .before .before .before .before .args .n) (c .before .before .before .before .before .before .before .before .before .before .before .before .before .before .before .before .before .before .before .before .before .args .d) (c .before .before .before .before .before .before .before .before .before .before .before .before .before .before .before .before .before .before .before .before .before .args .a) (c .before .before .before .before .before .before .before .before .before .before .before .before .before .before .before .before .before .before .before .before .before .args .b)) (start _ _ _) in
-    let l₁ = part _ _ l₀ (c .before .before .before .before .before .before .before .before .before .before .before .before .before .before .before .before .before .before .each-share .ensures) in
-    let l₂ = part _ _ l₁ (c .before .before .before .before .before .before .before .before .before .before .before .before .before .before .all-pairs .ensures) in
-    let l₃ = part _ _ l₂ (c .before .before .before .before .before .before .before .before .before .before .each-share2 .ensures) in
-    let l₄ = part _ _ l₃ (c .before .before .before .before .before .before .all-pairs2 .ensures) in
-    last l₄ (c .before .before .each-share3 .ensures)
+    let g = c .before .before .before .before .before .before .before .before .before .args in
+    let l₁ = part _ _ (renamed _ _ _ (and-wiped (g .n) (g .d) (g .a) (g .b)) (start _ _ _)) (c .before .before .before .before .before .before .and-steps .ensures) in
+    last l₁ (c .before .before .wiping .ensures)
 
 pub and-block-spec : {M : Type 1} → statement M
 and-block-spec =
     tie.close
     (tie.spec
-    each-share-requires
-    all-pairs-requires
-    each-share-requires-2
-    all-pairs-requires-2
-    each-share-requires-3
+    and-steps-requires
+    wiping-requires
     (λ c. search needs)
     returns)

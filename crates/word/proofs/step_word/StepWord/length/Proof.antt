@@ -2,7 +2,7 @@
 use borrow.Author.Tests.{ne-eqb}
 use native.Mathlib.Omega.{arith}
 use Rattle.word.specs.Layout.{lengthOf}
-use Rattle.word.proofs.Small.{square-lt, le-square}
+use Rattle.word.proofs.Small.{square-lt}
 use borrow.Author.Needs.{needs}
 use Rattle.word.proofs.step_word.StepWord.length.Statement.{statement}
 use Rattle.word.proofs.step_word.StepWord.length.Tie as tie
@@ -13,17 +13,20 @@ mul-result c = omega (arith, square-lt (c .before .args .n) (omega arith))
 mul-result-2 : tie.Need-mul-result-2
 mul-result-2 c = omega (arith, square-lt (c .before .args .n) (omega arith))
 
-sub-result : tie.Need-sub-result
-sub-result c = omega (arith, le-square (c .before .args .n))
+add-result : tie.Need-add-result
+add-result c = omega (arith, square-lt (c .before .args .n) (omega arith))
+
+mul-result-3 : tie.Need-mul-result-3
+mul-result-3 c = omega (arith, square-lt (c .before .args .n) (omega arith))
 
 mul-result-4 : tie.Need-mul-result-4
 mul-result-4 c = omega (arith, square-lt (c .before .args .n) (omega arith))
 
-mul-result-5 : tie.Need-mul-result-5
-mul-result-5 c = omega (arith, square-lt (c .before .args .n) (omega arith))
+add-result-2 : tie.Need-add-result-2
+add-result-2 c = omega (arith, square-lt (c .before .args .n) (omega arith))
 
-sub-result-2 : tie.Need-sub-result-2
-sub-result-2 c = omega (arith, le-square (c .before .args .n))
+add-result-3 : tie.Need-add-result-3
+add-result-3 c = omega (arith, square-lt (c .before .args .n) (omega arith))
 
 returns : tie.Need-returns
 unfolding lengthOf
@@ -43,12 +46,12 @@ length-spec =
     (tie.spec
     mul-result
     mul-result-2
-    (λ c. search needs)
-    sub-result
+    add-result
+    mul-result-3
     mul-result-4
-    mul-result-5
     (λ c. search needs)
-    sub-result-2
+    add-result-2
+    add-result-3
     returns
     returns-2
     returns-3)
