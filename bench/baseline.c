@@ -114,7 +114,8 @@ static void masked_not(size_t n, shared d, shared a) {
 
 /* AND with one operand refreshed; its scratch cells are wiped. Left to itself the compiler wipes by two calls of memset, which cost more than
  * the stores of a short loop. */
-__attribute__((optimize("no-tree-loop-distribute-patterns"))) static const uint64_t *masked_and(size_t n, uint64_t *cells, shared d, shared a, shared b, const uint64_t *tape) {
+__attribute__((optimize("no-tree-loop-distribute-patterns")))
+static const uint64_t *masked_and(size_t n, uint64_t *cells, shared d, shared a, shared b, const uint64_t *tape) {
     uint64_t *y = cells + Y, *z = cells + Z;
     for (size_t i = 0; i < n; i++) y[i] = b.first[b.step * i];
     for (size_t i = 0; i < n; i++)

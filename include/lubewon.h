@@ -40,8 +40,8 @@
  *                                                 9 RAND    the next tape word; a = b = 0
  *
  * A plan has words of kinds 1 to 8 on registers 0..31, a share program words of kinds 1 to 7 and 9 on cells 0..511; every other word is bad. Share
- * i of register r is cell 32 i + r; cells from 256 on are scratch. A translated AND or ADD leaves AND's own scratch zero, cells 256 + i and 264 + i
- * of each share, 272 and 273; the registers' shares stay, and ADD's four helpers', cells 288 + 8 i + h. docs/PLANS.md shows how to write a plan.
+ * i of register r is cell 32 i + r; cells from 256 on are the translation's own: for n shares AND works in 256 + i, 264 + i, 272 and 273, and
+ * leaves them zero; ADD has helpers in 288 + 8 i + h, h = 0..3, and leaves their shares. docs/PLANS.md shows how to write a plan.
  */
 #ifndef LUBEWON_H
 #define LUBEWON_H
@@ -110,7 +110,8 @@ typedef struct {
 lubewon_answer lubewon_measure(size_t n, const uint32_t *plan, size_t plan_len);
 
 /* The share program of a plan for n shares, at the front of out; out stays as it is past the program's end. Turn-downs 1 to 4: 4 where out is
- * shorter than measured. Counts are Measure's. */
+ * shorter than measured. Counts are Measure's. A program stored by a version before 0.12 still runs, but leaves AND's cells unwiped: translate
+ * it anew. */
 lubewon_answer lubewon_translate(size_t n, const uint32_t *plan, size_t plan_len, uint32_t *out, size_t out_len);
 
 /* A plan on exactly 32 plain cells, its registers. Turn-downs 2, 3, 4. No counts. */
@@ -118,7 +119,8 @@ lubewon_answer lubewon_plain_run(const uint32_t *plan, size_t plan_len, uint64_t
 
 /* A share program from place on, over a tape from tape_place on, on exactly 512 cells: does the smaller of budget and words left. words
  * counts the words done, tape the tape words used: go on from place + words and tape_place + tape. Turn-downs 2 to 6: 6 where those words hold
- * more RAND than tape remains. The whole program is checked first, each time. */
+ * more RAND than tape remains. The whole program is checked first, each time. The cells keep shares afterwards, and inside an AND or ADD masks too:
+ * wipe all 512 when done, or when a run is given up. */
 lubewon_answer lubewon_share_run(const uint32_t *program, size_t program_len, size_t place, const uint64_t *tape, size_t tape_len,
                                  size_t tape_place, size_t budget, uint64_t *cells, size_t cells_len);
 

@@ -1,4 +1,5 @@
 /* Group: share runs in a row, over long enough and over short tapes. */
+#include <stdbool.h>
 #include <stdlib.h>
 #include <string.h>
 
@@ -108,7 +109,8 @@ static void runs_in_a_row(size_t n, const uint32_t *plan, size_t plan_len) {
 static void word_by_word(size_t n, const uint32_t *plan, size_t plan_len) {
     job j = prepare(n, plan, plan_len, ref_measure(n, plan, plan_len).tape);
     uint64_t *cells = j.start, joined[REF_REGISTERS], registers[REF_REGISTERS];
-    size_t place = 0, used = 0, multiplied = 0;
+    size_t place = 0, used = 0;
+    bool wiped = false;
     join_registers(n, cells, registers);
     for (size_t k = 0; k < plan_len; k++) {
         lubewon_answer block = lubewon_measure(n, plan + k, 1);
@@ -119,8 +121,8 @@ static void word_by_word(size_t n, const uint32_t *plan, size_t plan_len) {
         try_plain_run(0, plan + k, 1, registers, REF_REGISTERS);
         join_registers(n, cells, joined);
         CHECK(memcmp(joined, registers, sizeof joined) == 0, "word by word: plan word %08X for n = %zu joins wrongly", plan[k], n);
-        multiplied += plan[k] >> 28 == REF_AND || plan[k] >> 28 == REF_ADD;
-        CHECK(multiplied == 0 || scratch_left(n, cells) == 0, "word by word: scratch left after plan word %08X for n = %zu", plan[k], n);
+        wiped |= plan[k] >> 28 == REF_AND || plan[k] >> 28 == REF_ADD;
+        CHECK(!wiped || scratch_left(n, cells) == 0, "word by word: scratch left after plan word %08X for n = %zu", plan[k], n);
     }
     CHECK(place == j.words && used == j.tape_words, "word by word: the whole program");
     put_away(&j);

@@ -8,7 +8,7 @@ ghost use Rattle.emission.specs.Written.{Emits, OnceRegisters, Registers
 use word::step::Step;
 use word::step_word::StepWord;
 
-// The share steps that come once per share: those of a step on registers, three parts of AND, and CONST 0 into the cells from one on.
+// The share steps that come once per share: those of a step on registers, three parts of AND, and CONST 0 into cells in a row.
 pub enum Once {
     Own(Step),
     CopyIn(u16),

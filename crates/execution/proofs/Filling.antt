@@ -2,7 +2,7 @@
 use mathlib.Core.Path.{_≡_, refl, sym, ap, _∙_, subst}
 use mathlib.Core.List.{List, [], _∷_, _++_, map}
 use mathlib.Core.Bool.{Bool, true, false}
-use Prim.Native.Nat.{ℕ, zero, suc, _+_, _-_, _≤_, _<_}
+use Prim.Native.Nat.{ℕ, suc, _+_, _-_, _≤_, _<_}
 use native.Mathlib.Nat.{zero-add}
 use native.Mathlib.Decide.{ℕ-discrete}
 use native.Mathlib.Numerals.{add-one}
@@ -13,8 +13,8 @@ use lib.ListN.{length, getD, set, take, drop, replicate, List·getD-append, leng
 use lib.Seq.{drop-cons, getD-append-add, getD-take, length-take-le, ext-getD, getD-set-same, getD-set-other}
 use borrow.Rule.Slice.PartMut.{midOf, putMid, postOf, mid-len, same-len-mid}
 use Rattle.word.specs.Layout.{cell}
-use Rattle.masking.proofs.emitted.Rising.{getD-from}
-use Rattle.masking.specs.Translation.{shares, upFrom}
+use Rattle.masking.proofs.emitted.Rising.{length-from, getD-from}
+use Rattle.masking.specs.Translation.{shares}
 use Rattle.execution.specs.Shares.{placedIn}
 
 -- the first i words are those of F
@@ -63,10 +63,6 @@ part-filled at end l part h m f e k below = by (ltb k at) refl
 
 pub part-size : (at end : ℕ) (l part : List ℕ) → part ≡ replicate (length (midOf at (end - at) l)) 0 → length (putMid at (end - at) l part) ≡ length l
 part-size at end l part e = same-len-mid at (end - at) l part (ap (λ (p : List ℕ). length p) e ∙ length-replicate (length (midOf at (end - at) l)) 0)
-
-length-from : (s c : ℕ) → length (upFrom s c) ≡ c
-length-from s zero = refl
-length-from s (suc c) = ap suc (length-from (suc s) c)
 
 pub all-filled : (F : ℕ → ℕ) (l : List ℕ) (n : ℕ) → length l ≡ n → Filled F n l → l ≡ map F (shares n)
 all-filled F l n e f =

@@ -1,9 +1,9 @@
 -- Zeros put into cells: what CONST 0 into them does, whatever the order; and AND's scratch cells, share by share. Rests on masking's Rising.
-use mathlib.Core.Path.{_≡_, refl, sym, ap, ap₂, _∙_}
+use mathlib.Core.Path.{_≡_, refl, ap, _∙_}
 use mathlib.Core.List.{List, [], _∷_, _++_, map}
 use Prim.Native.Nat.{ℕ, _+_, _-_, _≤_, _<_}
 use native.Mathlib.Decide.{ℕ-discrete}
-use lib.ListN.{length, set, length-set}
+use lib.ListN.{set}
 use lib.Seq.{set-comm}
 use Rattle.word.specs.Layout.{cellY, cellZ, cellT, cellU}
 use Rattle.masking.specs.Translation.{upFrom, scratch, scratchCells, wiping}
@@ -32,7 +32,7 @@ sooner : (js : List ℕ) (k : ℕ) (ks c : List ℕ) → zeroed (js ++ (k ∷ ks
 sooner [] k ks c = refl
 sooner (j ∷ js) k ks c = sooner js k ks (set c j 0) ∙ ap (zeroed (js ++ ks)) (swap c j k)
 
--- AND's scratch cells from share i on
+-- AND's scratch cells of some shares, and those from share i on
 abbrev over : List ℕ → List ℕ
 over is = map cellY is ++ (map cellZ is ++ (cellT ∷ cellU ∷ []))
 

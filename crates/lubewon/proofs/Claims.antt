@@ -7,6 +7,7 @@ use Rattle.plain.proofs.Examples as plain-examples
 use Rattle.masking.proofs.emitted.Counts as emitted-counts
 use Rattle.masking.proofs.Demand3 as runs
 use Rattle.masking.proofs.Leaks as leaks
+use Rattle.masking.proofs.WipedFirst as wiped-first
 use Rattle.masking.proofs.EveryShare as every-share
 use Rattle.masking.proofs.Examples as examples
 use Rattle.translation.proofs.Tied as tied
@@ -38,6 +39,7 @@ claims =
       demand3 = runs.demand3;
       translate-tied = tied.translate-tied;
       unrefreshed-leaks = leaks.unrefreshed-leaks;
+      wiped-first-wrong = wiped-first.wiped-first-wrong;
       every-share-wrong = every-share.every-share-wrong;
       rounding-means = meaning.rounding-means;
       floor-means = floor-meaning.floor-means;

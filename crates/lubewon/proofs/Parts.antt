@@ -76,7 +76,7 @@ plan-counts : {n : ℕ} {plan : List ℕ} → PlanCounts n plan → PlanCounts n
 plan-counts h = record { words = h .words; tape = h .tape; good = h .good; longest = h .longest }
 
 counts : Counts → Counts
-counts h = record { step = h .step; plan = h .plan; at-2 = h .at-2; at-8 = h .at-8; limit = h .limit; wiped = h .wiped }
+counts h = record { step = h .step; plan = h .plan; at-2 = h .at-2; at-8 = h .at-8; limit = h .limit; scratch-count = h .scratch-count }
 
 tape : {L : ℕ} {tape : List ℕ} → Tape L tape → Tape L tape
 tape h = record { size = h .size; words = h .words }
@@ -183,6 +183,9 @@ module _ (n : ℕ) (plan start tape : List ℕ) (place : ℕ) (budgets : List �
 
   cells : after budgets .cells ≡ exec (take m P) (drop place tape) start
   cells = D .cells
+
+  size : length (after budgets .cells) ≡ 512
+  size = D .size
 
   rand : t ≡ rands (take m P)
   rand = D .rand

@@ -17,11 +17,13 @@ use Rattle.word.specs.Parts.{OfParts, OfNone}
 use Rattle.checks.specs.Answers.{FirstBad, firstBad}
 use Rattle.masking.specs.Translation.{program}
 use Rattle.masking.specs.Foretold.{Accepted, foretoldTape, foretoldWords}
-use Rattle.masking.specs.Machine.{Start}
+use Rattle.masking.specs.Machine.{Start, execSteps}
+use Rattle.masking.specs.Unsplit.{joined}
 use Rattle.masking.specs.Counts.{StepCounts, PlanCounts}
 use Rattle.masking.specs.Secrecy.{Secret, Hidden}
 use Rattle.masking.specs.Demand3.{InARow}
 use Rattle.masking.specs.Leaks.{Leak}
+use Rattle.masking.specs.WipedFirst.{wipedFirst}
 use Rattle.masking.specs.EveryShare.{JoinsWrongly}
 use Rattle.translation.specs.Calls.{measured, translateAnswer}
 use Rattle.translation.specs.Tied.{Tied}
@@ -120,6 +122,10 @@ module _ (C : Claims) where
 
   leaks : Leak 0 × Leak 1
   leaks = C .unrefreshed-leaks
+
+  wiped-first : (n d : ℕ) → n ≤ 8 → d < 32 → (before : List Step) (cells tape : List ℕ) → Start cells → ((k : ℕ) → getD tape k 0 < 2 ^ 64)
+      → joined n (execSteps (wipedFirst n d before) tape cells) d ≡ 0
+  wiped-first = C .wiped-first-wrong
 
   every-share : JoinsWrongly 2 × JoinsWrongly 4 × JoinsWrongly 6 × JoinsWrongly 8
   every-share = C .every-share-wrong

@@ -9,6 +9,7 @@ use Rattle.plain.specs.Examples.{WordExamples}
 use Rattle.masking.specs.Counts.{Counts}
 use Rattle.masking.specs.Demand3.{Demand3Holds}
 use Rattle.masking.specs.Leaks.{UnrefreshedLeaks}
+use Rattle.masking.specs.WipedFirst.{WipedFirstWrong}
 use Rattle.masking.specs.EveryShare.{EveryShareWrong}
 use Rattle.masking.specs.Examples.{TranslationExamples}
 use Rattle.translation.specs.Tied.{TranslateTied}
@@ -31,13 +32,14 @@ pub record Claims : Type 0 where
   pub first-bad : FirstBadFound
   pub plain-machine : Laws
   pub adder : AdderAdds
-  -- translation and share runs: lengths, tape words and cells; demand 3; that it is about the words Translate writes
+  -- translation and share runs: lengths, tape words and cells; demand 3, with AND's scratch cells wiped; that it is about the words Translate writes
   pub counts : Counts
   pub demand3 : Demand3Holds
   pub translate-tied : TranslateTied
   -- and that an AND on two shares without its refresh has no such secrecy
   pub unrefreshed-leaks : UnrefreshedLeaks
-  -- and that NOT and CONST in every share join wrongly at even n
+  -- that an AND which wipes before it copies z to d gives shares of 0, and that NOT and CONST in every share join wrongly at even n
+  pub wiped-first-wrong : WipedFirstWrong
   pub every-share-wrong : EveryShareWrong
   -- numbers: what rounding and the whole numbers mean, the one fact about dropping low bits, where the results are IEEE 754's, the corners, the tables of edges
   pub rounding-means : RoundingMeans

@@ -80,6 +80,7 @@ module _ (n : ℕ) (plan : List ℕ) (A : Accepted n plan) (start tape : List �
       record {
         each = λ before rest b e. each-run P tape start p₀ (plan-counts n plan A .longest) (plan-counts n plan A .good) (inARow P tape st₀ before) (reached before) b;
         cells = cells-are budgets;
+        size = reached budgets .size;
         rand = used-are budgets;
         place = at-m budgets;
         tapeMoved = tape-sum P tape st₀ budgets;

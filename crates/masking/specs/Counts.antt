@@ -1,4 +1,4 @@
--- What document 01's section "Translation for n shares" says of lengths, tape words and cells.
+-- What document 01's section "Translation for n shares", and for AND and ADD document 02's No. 4, say of lengths, tape words and cells.
 use mathlib.Core.Path.{_≡_}
 use mathlib.Core.Bool.{Bool, true, _&&_, _||_}
 use mathlib.Core.List.{List, [], _∷_}
@@ -36,8 +36,7 @@ pub record StepCounts (n : ℕ) (s : Step) : Type 0 where
   pub good : T (allOf inProgram (translated n s))
   pub cells : T (allOf (naming (usedCell n)) (translated n s))
 
--- a plan's share program: Measure's counts are those of the words emitted, none is bad, and "the
--- longest share program 8,257,536 words" (document 02, No. 4)
+-- a plan's share program: Measure's counts are those of the words emitted, none is bad, and there are at most "8,257,536 words"
 pub record PlanCounts (n : ℕ) (plan : List ℕ) : Type 0 where
   pub words : length (program n plan) ≡ foretoldWords n plan
   pub tape : rands (program n plan) ≡ foretoldTape n plan
@@ -47,11 +46,10 @@ pub record PlanCounts (n : ℕ) (plan : List ℕ) : Type 0 where
 pub record Counts : Type 0 where
   pub step : (n : ℕ) → 2 ≤ n → n ≤ 8 → (s : Step) → T (inPlan s) → StepCounts n s
   pub plan : (n : ℕ) (plan : List ℕ) → Accepted n plan → PlanCounts n plan
-  -- document 01's figures with AND's and ADD's words by document 02, No. 4: at n = 2 AND 22 words and 2 tape words, ADD 306 and 24; at n = 8
-  -- 322 and 56, 4,032 and 672
+  -- document 01's figures, with AND's and ADD's words by document 02, No. 4 (document 01: at n = 2 16 and 234, at n = 8 304 and 3,816)
   pub at-2 : (lengthOf 3 2 ≡ 22) × (tapeOf 3 2 ≡ 2) × (lengthOf 8 2 ≡ 306) × (tapeOf 8 2 ≡ 24)
   pub at-8 : (lengthOf 3 8 ≡ 322) × (tapeOf 3 8 ≡ 56) × (lengthOf 8 8 ≡ 4032) × (tapeOf 8 8 ≡ 672)
   -- "the longest share program 8,257,536 words"
   pub limit : programMax ≡ 8257536
-  -- "those 2n + 2 cells"
-  pub wiped : (n : ℕ) → length (scratchCells scratch n) ≡ 2 * n + 2
+  -- "those 2n + 2 cells": the entries of the list that the wiping goes through
+  pub scratch-count : (n : ℕ) → length (scratchCells scratch n) ≡ 2 * n + 2

@@ -1,12 +1,12 @@
 -- Bounds: of a share count, and on the counts per kind, where a share count below 256 keeps squares and pairs small.
-use Prim.Native.Nat.{ℕ, _+_, _-_, _*_, _/_, _≤_, _<_}
+use Prim.Native.Nat.{ℕ, _-_, _*_, _/_, _≤_, _<_}
 use native.Mathlib.Nat.{mul-le-mul-left}
 use mathlib.Core.Path.{_≡_, refl}
 use mathlib.Core.Bool.{Bool, true, false, cond, _&&_}
 use native.Mathlib.Omega.{arith}
 use lib.Dec.{eqb, leb}
 use borrow.Author.Tests.{leb-true}
-use Rattle.word.specs.Layout.{isShareCount, lengthOf, tapeOf, wordMax}
+use Rattle.word.specs.Layout.{isShareCount, andLength, addLength, lengthOf, tapeOf, wordMax}
 
 pub square-lt : (n : ℕ) → n < 256 → n * n < 65536
 square-lt n h =
@@ -35,7 +35,7 @@ module _ (n : ℕ) (most : n ≤ 8) where
   unfolding lengthOf
   length-le k = by (eqb k 3) (eqb k 8) (mul-le-mul-left n most)
     where
-      by : (p q : Bool) → n * n ≤ n * 8 → cond p (5 * (n * n) + 2) (cond q (60 * (n * n) + 21 * n + 24) n) ≤ wordMax
+      by : (p q : Bool) → n * n ≤ n * 8 → cond p (andLength n) (cond q (addLength n) n) ≤ wordMax
       by true q h = omega arith
       by false true h = omega arith
       by false false h = omega arith

@@ -1,5 +1,5 @@
--- Places and lengths, from document 01's sections "Step words" and "Translation for n shares": limits, share and scratch cells, and
--- the words and tape words that a plan word of each kind translates to.
+-- Places and lengths, from document 01's sections "Step words" and "Translation for n shares" and document 02's No. 4: limits, share and
+-- scratch cells, and the words and tape words that a plan word of each kind translates to.
 use mathlib.Core.Bool.{Bool, cond, _&&_}
 use Prim.Native.Nat.{ℕ, _+_, _-_, _*_, _/_}
 use lib.Dec.{eqb, leb}

@@ -50,7 +50,7 @@ laid-within s h = widen (laidOut s) (laid-36 s h)
     widen (s ∷ ss) a = (within-more 36 40 (omega arith) s (a .0), widen ss (a .1))
 
 -- a share step on cells is one of a share program
-program-steps : HoldsOn (λ c. c < 512) (λ s. T (inProgram s))
+pub program-steps : HoldsOn (λ c. c < 512) (λ s. T (inProgram s))
 program-steps s k c f = join (not (eqb (kindNumber s) 8)) (within 512 s) k (cells-within 512 s c f)
 
 -- and names cells of a kind
@@ -85,7 +85,7 @@ module _ (n c : ℕ) where
 
 module _ (n : ℕ) (small : n ≤ 8) where
   -- all cells are below 512
-  below-512 : Names n 40 scratch (λ c. c < 512)
+  pub below-512 : Names n 40 scratch (λ c. c < 512)
   below-512 =
       record {
         share = λ i r l lr.

@@ -65,7 +65,7 @@ module _ (n w : ℕ) (c : Scratch) (Q : ℕ → Type 0) (N : Names n w c Q) (P :
       (all-append P (products c (cellsOf a) (pairs (shares n))) _ (products-all a la (pairs (shares n)) (apart-pairs n))
       (each _ (λ i l. K (Shl (shareCell i d) (c .z i) 0) tt (N .share i d l ld, (N .z i l, tt)) tt)))))
 
-  wiping-all : (ks : List ℕ) → Each Q ks → All P (wiping ks)
+  pub wiping-all : (ks : List ℕ) → Each Q ks → All P (wiping ks)
   wiping-all [] h = tt
   wiping-all (k ∷ ks) h = (K (Const k 0) tt (h .0, tt) tt, wiping-all ks (h .1))
 

@@ -1,10 +1,10 @@
--- Numbers from one on: the first of them and the rest, none, and the entries of a list over them. Assumes nothing.
-use mathlib.Core.Path.{_≡_, sym, ap, _∙_}
+-- Numbers from one on: the first of them and the rest, none, how many, and the entries of a list over them. Assumes nothing.
+use mathlib.Core.Path.{_≡_, refl, sym, ap, _∙_}
 use mathlib.Core.List.{[], _∷_, map}
 use Prim.Native.Nat.{ℕ, zero, suc, _+_, _-_, _≤_, _<_}
 use native.Mathlib.Numerals.{add-one}
 use native.Mathlib.Omega.{arith}
-use lib.ListN.{getD}
+use lib.ListN.{length, getD}
 use Rattle.masking.specs.Translation.{shares, upFrom}
 
 module _ (i n : ℕ) where
@@ -24,6 +24,10 @@ pub from-first : (n : ℕ) → shares n ≡ upFrom 0 (n - 0)
 from-first n =
     let e : n ≡ n - 0 = omega arith in
     ap (upFrom 0) e
+
+pub length-from : (s c : ℕ) → length (upFrom s c) ≡ c
+length-from s zero = refl
+length-from s (suc c) = ap suc (length-from (suc s) c)
 
 -- an entry of a list over numbers
 pub getD-from : (f : ℕ → ℕ) (s c i : ℕ) → i < c → getD (map f (upFrom s c)) i 0 ≡ f (s + i)

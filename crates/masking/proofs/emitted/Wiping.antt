@@ -1,8 +1,8 @@
 -- AND's scratch cells: what holds of y and z of each share, of t and of u holds of each cell of the list, and back; they are no shares; and
--- the steps that wipe them, share by share. Assumes nothing.
+-- the steps that wipe them, share by share. Rests on Rising and Places.
 use mathlib.Core.Path.{_≡_, refl, ap, _∙_}
 use mathlib.Core.List.{List, [], _∷_, _++_, map}
-use Prim.Native.Nat.{ℕ, zero, suc, _+_, _*_, _≤_, _<_}
+use Prim.Native.Nat.{ℕ, zero, suc, _+_, _*_, _<_}
 use native.Mathlib.Nat.{add-zero, zero-add}
 use native.Mathlib.Omega.{arith}
 use lib.ListN.{length, length-append, length-map}
@@ -10,6 +10,7 @@ use Rattle.word.specs.declared.step.Step.{Step}
 use Rattle.word.specs.declared.step.Step.the-variants.{Const}
 use Rattle.word.specs.Table.{Each}
 use Rattle.masking.specs.Translation.{upFrom, shares, shareCell, Scratch, scratchCells, wiping}
+use Rattle.masking.proofs.emitted.Rising.{length-from}
 use Rattle.masking.proofs.emitted.Places.{Places}
 
 module _ (P : ℕ → Type 0) where
@@ -75,11 +76,7 @@ wiping-shares c n =
     wiping-map (c .y) (shares n) _ ∙ ap (λ (r : List Step). map (λ i. Const (c .y i) 0) (shares n) ++ r) (wiping-map (c .z) (shares n) _)
 
 -- "those 2n + 2 cells"
-from-length : (s c : ℕ) → length (upFrom s c) ≡ c
-from-length s zero = refl
-from-length s (suc c) = ap suc (from-length (suc s) c)
-
 pub scratch-count : (c : Scratch) (n : ℕ) → length (scratchCells c n) ≡ 2 * n + 2
 scratch-count c n =
     simp (length-append, length-map)
-    (omega (arith, from-length 0 n))
+    (omega (arith, length-from 0 n))

@@ -1,4 +1,5 @@
--- What holds after a list of steps whatever tape words they take, and its rules: a run's end, weakening, lists in a row, and words.
+-- What holds after a list of steps whatever tape words they take, and its rules: a run's end, weakening, lists in a row, words, and cells
+-- that no step writes.
 use mathlib.Core.Path.{_≡_, refl, _∙_}
 use mathlib.Core.List.{List, [], _∷_, _++_}
 use Prim.Native.Nat.{ℕ, _^_, _<_}
@@ -46,7 +47,7 @@ after-off (s ∷ ss) c =
     after-mono ss (λ e. (k : ℕ) → Off k ss → e k ≡ stepOn s t c k) _ (stepOn s t c)
     (λ e h k o. h k (o .1) ∙ upd-other c (dest s) (becomes s c t) k (o .0)) (after-off ss (stepOn s t c))
 
--- whatever is asked, a run ends
+-- where nothing is asked
 pub after-any : (ss : List Step) (c : Cells) → after ss (λ e. Unit {0}) c
 after-any [] c = tt
 after-any (s ∷ ss) c = λ t l. after-any ss (stepOn s t c)

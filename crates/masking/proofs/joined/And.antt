@@ -108,35 +108,33 @@ module _ (n w : ℕ) (C : Scratch) (L : Places n w C) (d a b : ℕ) (ld : d < w)
       (λ c i j v l m ne. ap (λ (x : ℕ). shlW x 0) (upd-other c (shareCell j d) v (C .z i) (λ q. L .share-z j d i m ld l (sym q)))) c (sumZ c)
       (sum-same n (λ i. shlW (c (C .z i)) 0) (λ i. c (C .z i)) (λ i l. shl-zero _ (words _)))
 
-  steps-join : (c : Cells) → WordCells c → after (andSteps C n (cellsOf d) (cellsOf a) (cellsOf b)) (Sets n w c d (andW (joinOf n c a) (joinOf n c b))) c
+  -- d joins to the AND, and the other registers stay
+  abbrev Anded : Cells → Cells → Type 0
+  Anded c = Sets n w c d (andW (joinOf n c a) (joinOf n c b))
+
+  steps-join : (c : Cells) → WordCells c → after (andSteps C n (cellsOf d) (cellsOf a) (cellsOf b)) (Anded c) c
   unfolding andSteps
   steps-join c words =
-      after-then copyB _ _ Ψ c (copied c words) (λ e₁ h₁.
-      after-then (refresh C (pairs (shares n))) _ _ Ψ e₁ (refreshed e₁ (h₁ .0)) (λ e₂ h₂.
-      after-then ownProducts _ _ Ψ e₂ (started e₂ (h₂ .0)) (λ e₃ h₃.
-      after-then (products C (cellsOf a) (pairs (shares n))) copyD _ Ψ e₃ (multiplied e₃ (h₃ .0)) (λ e₄ h₄.
-      after-mono copyD (Sets n w e₄ d (sumZ e₄)) Ψ e₄ (λ e h r l.
+      after-then copyB _ _ (Anded c) c (copied c words) (λ e₁ h₁.
+      after-then (refresh C (pairs (shares n))) _ _ (Anded c) e₁ (refreshed e₁ (h₁ .0)) (λ e₂ h₂.
+      after-then ownProducts _ _ (Anded c) e₂ (started e₂ (h₂ .0)) (λ e₃ h₃.
+      after-then (products C (cellsOf a) (pairs (shares n))) copyD _ (Anded c) e₃ (multiplied e₃ (h₃ .0)) (λ e₄ h₄.
+      after-mono copyD (Sets n w e₄ d (sumZ e₄)) (Anded c) e₄ (λ e h r l.
       h r l ∙ upd-at (joinOf n e₄) (joinOf n c) d (sumZ e₄) r
       (sum-same n (λ i. e₄ (shareCell i r)) (λ i. c (shareCell i r)) (λ i m. h₄ .1 .1 i r m l ∙ h₃ .1 .1 i r m l ∙ h₂ .1 .1 i r m l ∙ h₁ .1 .1 i r m l))
       ∙ ap (λ (v : ℕ). upd (joinOf n c) d v r)
       (h₄ .1 .0 ∙ h₃ .1 .0
       ∙ ap₂ andW (sum-same n (λ i. e₂ (shareCell i a)) (λ i. c (shareCell i a)) (λ i m. h₂ .1 .1 i a m la ∙ h₁ .1 .1 i a m la)) (h₂ .1 .0 ∙ h₁ .1 .0)))
       (written e₄ (h₄ .0))))))
-    where
-      Ψ : Cells → Type 0
-      Ψ = Sets n w c d (andW (joinOf n c a) (joinOf n c b))
 
   -- wiping its scratch cells leaves the shares
-  pub and-joins : (c : Cells) → WordCells c → after (andBlock C n (cellsOf d) (cellsOf a) (cellsOf b)) (Sets n w c d (andW (joinOf n c a) (joinOf n c b))) c
+  pub and-joins : (c : Cells) → WordCells c → after (andBlock C n (cellsOf d) (cellsOf a) (cellsOf b)) (Anded c) c
   unfolding andBlock
   and-joins c words =
       let W = wiping (scratchCells C n) in
-      after-then (andSteps C n (cellsOf d) (cellsOf a) (cellsOf b)) W _ Ψ c (steps-join c words) (λ e h.
-      after-mono W (λ f. (k : ℕ) → Off k W → f k ≡ e k) Ψ e
+      after-then (andSteps C n (cellsOf d) (cellsOf a) (cellsOf b)) W _ (Anded c) c (steps-join c words) (λ e h.
+      after-mono W (λ f. (k : ℕ) → Off k W → f k ≡ e k) (Anded c) e
       (λ f q r l.
       sum-same n (λ i. f (shareCell i r)) (λ i. e (shareCell i r)) (λ i m. q (shareCell i r) (wiping-off (shareCell i r) (scratchCells C n) (share-apart n w C L i r m l)))
       ∙ h r l)
       (after-off W e))
-    where
-      Ψ : Cells → Type 0
-      Ψ = Sets n w c d (andW (joinOf n c a) (joinOf n c b))

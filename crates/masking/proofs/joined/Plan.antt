@@ -102,7 +102,7 @@ module _ (n : ℕ) (least : 2 ≤ n) (most : n ≤ 8) where
 -- ---- lists of cells
 
 module _ (n : ℕ) (l : List ℕ) (r : ℕ) (lr : r < 32) where
-  joined-of : joined n l r ≡ joinOf n (at l) r
+  pub joined-of : joined n l r ≡ joinOf n (at l) r
   unfolding joined
   joined-of = sum-same n (λ i. at l (cell i r)) (λ i. at l (shareCell i r)) (λ i h. ap (at l) (sym (share-register i r lr)))
 

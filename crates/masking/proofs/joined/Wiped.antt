@@ -1,10 +1,10 @@
 -- AND's scratch cells after a plan: an AND leaves them zero, whatever the start and the tape, and no other step on registers writes them. So
 -- they are zero after the share program of a plan's first k words if one of these is AND or ADD. Rests on Zeroed and emitted's Steps.
 use mathlib.Core.Path.{_≡_, refl, sym, ap, _∙_, subst}
-use mathlib.Core.Bool.{Bool, true, false, _||_}
+use mathlib.Core.Bool.{Bool, false, _||_}
 use mathlib.Core.List.{List, [], _∷_, _++_, map}
-use mathlib.Core.Logic.{_⊎_, inl, inr}
-use Prim.Native.Nat.{ℕ, zero, suc, _<_}
+use mathlib.Core.Logic.{_⊎_, inl, inr, ⊎-elim}
+use Prim.Native.Nat.{ℕ, zero, suc}
 use native.Mathlib.Omega.{arith}
 use lib.Dec.{T, eqb}
 use lib.ListN.{length, take}
@@ -12,7 +12,6 @@ use Rattle.word.specs.declared.step.Step.{Step}
 use Rattle.word.specs.declared.step.Step.the-variants.{Const, Xor, And, Not, Shl, Shr, Spread, Add, Rand}
 use Rattle.word.specs.Encoding.{kindOf, within, kindNumber, planStep}
 use Rattle.word.specs.Table.{dest, Each}
-use Rattle.word.proofs.Ranges.{each-of}
 use Rattle.masking.specs.Translation.{shareCell, cellsOf, shares, shareStep, Scratch, scratch, scratchCells, wiping, andSteps, andBlock, block, blocks, adding, laidOut, program}
 use Rattle.masking.specs.Foretold.{Accepted}
 use Rattle.masking.specs.Machine.{exec, execSteps, Words}
@@ -24,7 +23,7 @@ use Rattle.masking.proofs.emitted.Steps.{PlanWords, plan-words, stepsFo
 use Rattle.masking.proofs.joined.Cells.{Cells, within-dest, at, exec-on}
 use Rattle.masking.proofs.joined.After.{after, after-mono, after-then, after-run, after-off, after-any, Off}
 use Rattle.masking.proofs.joined.Once.{Once}
-use Rattle.masking.proofs.joined.Zeroed.{wiping-zeroes}
+use Rattle.masking.proofs.joined.Zeroed.{Zeroed, wiping-zeroes}
 
 -- ---- steps on registers
 
@@ -43,6 +42,11 @@ any-right : (ss ts : List Step) → T (anyAnd ts) → T (anyAnd (ss ++ ts))
 any-right [] ts h = h
 any-right (s ∷ ss) ts h = or-right (isAnd s) _ (any-right ss ts h)
 
+-- where no AND comes, they were zero before
+were : {P : Type 0} → ⊥ ⊎ P → P
+were (inl x) = absurd x
+were (inr z) = z
+
 -- share i's step of a kind that is once per share writes share i
 share-dest : (s : Step) → Once s → (i : ℕ) → dest (shareStep s i) ≡ shareCell i (dest s)
 share-dest (Const d k) o zero = refl
@@ -58,64 +62,51 @@ share-dest (Add d a b) o i = absurd o
 share-dest (Rand d) o i = absurd o
 
 module _ (n w : ℕ) (C : Scratch) (L : Places n w C) where
-  abbrev Zeroed : Cells → Type 0
-  Zeroed e = Each (λ k. e k ≡ 0) (scratchCells C n)
+  abbrev Zero : Cells → Type 0
+  Zero = Zeroed n C
 
   -- steps that write shares alone leave it so
-  shares-only : (ss : List Step) → ((k : ℕ) → Aside n w k → Off k ss) → (c : Cells) → Zeroed c → after ss Zeroed c
+  shares-only : (ss : List Step) → ((k : ℕ) → Aside n w k → Off k ss) → (c : Cells) → Zero c → after ss Zero c
   shares-only ss o c z =
-      after-mono ss (λ e. (k : ℕ) → Off k ss → e k ≡ c k) Zeroed c (λ e h. both (scratchCells C n) e h (scratch-aside n w C L) z) (after-off ss c)
+      after-mono ss (λ e. (k : ℕ) → Off k ss → e k ≡ c k) Zero c (λ e h. both (scratchCells C n) e h (scratch-aside n w C L) z) (after-off ss c)
     where
       both : (ks : List ℕ) (e : Cells) → ((k : ℕ) → Off k ss → e k ≡ c k) → Each (Aside n w) ks → Each (λ k. c k ≡ 0) ks → Each (λ k. e k ≡ 0) ks
       both [] e h a z = tt
       both (k ∷ ks) e h a z = (h k (o k (a .0)) ∙ z .0, both ks e h (a .1) (z .1))
 
-  once-zeroed : (s : Step) → Once s → T (within w s) → (c : Cells) → Zeroed c → after (map (shareStep s) (shares n)) Zeroed c
+  once-zeroed : (s : Step) → Once s → T (within w s) → (c : Cells) → Zero c → after (map (shareStep s) (shares n)) Zero c
   once-zeroed s o h =
       shares-only (map (shareStep s) (shares n)) (λ k a.
       all-from (λ s. k ≡ dest s → ⊥) (shareStep s) 0 n (λ i l m e. a i (dest s) (omega arith) (within-dest w s h) (sym (share-dest s o i) ∙ sym e)))
 
   -- AND wipes them
-  and-zeroed : (d a b : ℕ) (c : Cells) → after (andBlock C n (cellsOf d) (cellsOf a) (cellsOf b)) Zeroed c
+  and-zeroed : (d a b : ℕ) (c : Cells) → after (andBlock C n (cellsOf d) (cellsOf a) (cellsOf b)) Zero c
   unfolding andBlock
   and-zeroed d a b c =
       let P = andSteps C n (cellsOf d) (cellsOf a) (cellsOf b) in
-      after-then P (wiping (scratchCells C n)) (λ e. Unit {0}) Zeroed c (after-any P c) (λ e q. wiping-zeroes (scratchCells C n) e)
+      after-then P (wiping (scratchCells C n)) (λ e. Unit {0}) Zero c (after-any P c) (λ e q. wiping-zeroes (scratchCells C n) e)
 
-  block-zeroed : (s : Step) → T (within w s) → (c : Cells) → Zeroed c → after (block C n s) Zeroed c
-  block-zeroed (Const d k) h c z = once-zeroed (Const d k) tt h c z
-  block-zeroed (Xor d a b) h c z = once-zeroed (Xor d a b) tt h c z
+  -- so they are zero after AND, and after the others if they were
+  block-zeroed : (s : Step) → T (within w s) → (c : Cells) → T (isAnd s) ⊎ Zero c → after (block C n s) Zero c
+  block-zeroed (Const d k) h c z = once-zeroed (Const d k) tt h c (were z)
+  block-zeroed (Xor d a b) h c z = once-zeroed (Xor d a b) tt h c (were z)
   block-zeroed (And d a b) h c z = and-zeroed d a b c
-  block-zeroed (Not d a) h c z = once-zeroed (Not d a) tt h c z
-  block-zeroed (Shl d a b) h c z = once-zeroed (Shl d a b) tt h c z
-  block-zeroed (Shr d a b) h c z = once-zeroed (Shr d a b) tt h c z
-  block-zeroed (Spread d a) h c z = once-zeroed (Spread d a) tt h c z
-  block-zeroed (Add d a b) h c z = z
-  block-zeroed (Rand d) h c z = z
+  block-zeroed (Not d a) h c z = once-zeroed (Not d a) tt h c (were z)
+  block-zeroed (Shl d a b) h c z = once-zeroed (Shl d a b) tt h c (were z)
+  block-zeroed (Shr d a b) h c z = once-zeroed (Shr d a b) tt h c (were z)
+  block-zeroed (Spread d a) h c z = once-zeroed (Spread d a) tt h c (were z)
+  block-zeroed (Add d a b) h c z = were z
+  block-zeroed (Rand d) h c z = were z
 
-  of-and : (s : Step) → T (isAnd s) → (c : Cells) → after (block C n s) Zeroed c
-  of-and (Const d k) h = absurd h
-  of-and (Xor d a b) h = absurd h
-  of-and (And d a b) h = and-zeroed d a b
-  of-and (Not d a) h = absurd h
-  of-and (Shl d a b) h = absurd h
-  of-and (Shr d a b) h = absurd h
-  of-and (Spread d a) h = absurd h
-  of-and (Add d a b) h = absurd h
-  of-and (Rand d) h = absurd h
-
-  blocks-keep : (ss : List Step) → All (λ s. T (within w s)) ss → (c : Cells) → Zeroed c → after (blocks C n ss) Zeroed c
-  blocks-keep [] h c z = z
-  blocks-keep (s ∷ ss) h c z =
-      after-then (block C n s) (blocks C n ss) Zeroed Zeroed c (block-zeroed s (h .0) c z) (blocks-keep ss (h .1))
-
-  blocks-zero : (ss : List Step) → All (λ s. T (within w s)) ss → T (anyAnd ss) → (c : Cells) → after (blocks C n ss) Zeroed c
-  blocks-zero [] h a c = absurd a
-  blocks-zero (s ∷ ss) h a c =
-      or-elim (isAnd s) (anyAnd ss)
-      (λ x. after-then (block C n s) (blocks C n ss) Zeroed Zeroed c (of-and s x c) (blocks-keep ss (h .1)))
-      (λ x. after-then (block C n s) (blocks C n ss) (λ e. Unit {0}) Zeroed c (after-any (block C n s) c) (λ e q. blocks-zero ss (h .1) x e))
-      a
+  blocks-zeroed : (ss : List Step) → All (λ s. T (within w s)) ss → (c : Cells) → T (anyAnd ss) ⊎ Zero c → after (blocks C n ss) Zero c
+  blocks-zeroed [] h c z = were z
+  blocks-zeroed (s ∷ ss) h c z =
+      let rest : (e : Cells) → T (anyAnd ss) ⊎ Zero e → after (blocks C n ss) Zero e = blocks-zeroed ss (h .1) in
+      let first : T (isAnd s) ⊎ Zero c → after (block C n s ++ blocks C n ss) Zero c =
+      λ x. after-then (block C n s) (blocks C n ss) Zero Zero c (block-zeroed s (h .0) c x) (λ e q. rest e (inr q)) in
+      let later : T (anyAnd ss) → after (block C n s ++ blocks C n ss) Zero c =
+      λ x. after-then (block C n s) (blocks C n ss) (λ e. Unit {0}) Zero c (after-any (block C n s) c) (λ e q. rest e (inl x)) in
+      ⊎-elim (or-elim (isAnd s) (anyAnd ss) (λ x. first (inl x)) later) (λ (q : Zero c). first (inr q)) z
 
 -- ---- plans
 
@@ -145,9 +136,9 @@ program-wiped n plan A h l tape size words =
     let ss = blocks scratch n (planSteps plan) in
     let e : at (exec (program n plan) tape l) ≡ _ =
     ap (λ (ss : List Step). at (execSteps ss tape l)) (program-steps n plan A) ∙ exec-on ss (plan-good n plan A) l tape size in
-    let z = after-run ss (Zeroed n 40 scratch (places n (A .most))) (at l)
-    (blocks-zero n 40 scratch (places n (A .most)) (planSteps plan) (plan-within n plan A) (plan-and plan (plan-words plan (A .good)) h) (at l)) tape words in
-    let p = scratch-parts (λ k. at (exec (program n plan) tape l) k ≡ 0) scratch n (subst (Zeroed n 40 scratch (places n (A .most))) (sym e) z) in
+    let z = after-run ss (Zeroed n scratch) (at l)
+    (blocks-zeroed n 40 scratch (places n (A .most)) (planSteps plan) (plan-within n plan A) (at l) (inl (plan-and plan (plan-words plan (A .good)) h))) tape words in
+    let p = scratch-parts (λ k. at (exec (program n plan) tape l) k ≡ 0) scratch n (subst (Zeroed n scratch) (sym e) z) in
     record { y = p .y; z = p .z; t = p .t; u = p .u }
 
 pub wiped-after : (n : ℕ) (plan : List ℕ) → Accepted n plan → (l tape : List ℕ) → length l ≡ 512 → Words tape → (k : ℕ) → T (holdsAndOrAdd (take k plan))

@@ -9,34 +9,44 @@ use Rattle.emission.proofs.blocks.wiping.Statement.{statement}
 use Rattle.emission.proofs.blocks.wiping.Tie as tie
 
 each-share-requires : tie.Need-each-share-requires
-each-share-requires c κs = (
-  omega arith,
-  room _ _ (renamed _ _ _ (wiping-parts (c .before .before .args .n)) (start _ _ _)) (c .before .before .pre),
-)
+each-share-requires c κs =
+    let s = c .before .before in
+    let g = s .args in (
+      omega arith,
+      room _ _ (renamed _ _ _ (wiping-parts (g .n)) (start _ _ _)) (s .pre),
+    )
 
 each-share-requires-2 : tie.Need-each-share-requires-2
-each-share-requires-2 c κs = (
-  omega arith,
-  let l₁ = part _ _ (renamed _ _ _ (wiping-parts (c .before .before .before .before .before .before .args .n)) (start _ _ _)) (c .before .before .before .each-share .ensures) in
-      room _ _ l₁ (c .before .before .before .before .before .before .pre),
-)
+each-share-requires-2 c κs =
+    let s = c .before .before .before .before .before .before in
+    let g = s .args in (
+      omega arith,
+      let l₁ = part _ _ (renamed _ _ _ (wiping-parts (g .n)) (start _ _ _)) (c .before .before .before .each-share .ensures) in
+          room _ _ l₁ (s .pre),
+    )
 
 put-requires : tie.Need-put-requires
 put-requires c κs =
-    let l₁ = part _ _ (renamed _ _ _ (wiping-parts (c .before .before .before .before .before .before .before .before .before .before .args .n)) (start _ _ _)) (c .before .before .before .before .before .before .before .each-share .ensures) in
+    let s = c .before .before .before .before .before .before .before .before .before .before in
+    let g = s .args in
+    let l₁ = part _ _ (renamed _ _ _ (wiping-parts (g .n)) (start _ _ _)) (c .before .before .before .before .before .before .before .each-share .ensures) in
     let l₂ = part _ _ l₁ (c .before .before .before .each-share2 .ensures) in
-    omega (arith, room (Const 272 0 ∷ []) (Const 273 0 ∷ []) l₂ (c .before .before .before .before .before .before .before .before .before .before .pre) .fits)
+    omega (arith, room (Const 272 0 ∷ []) (Const 273 0 ∷ []) l₂ (s .pre) .fits)
 
 put-requires-2 : tie.Need-put-requires-2
 put-requires-2 c κs =
-    let l₁ = part _ _ (renamed _ _ _ (wiping-parts (c .before .before .before .before .before .before .before .before .before .before .before .before .before .before .args .n)) (start _ _ _)) (c .before .before .before .before .before .before .before .before .before .before .before .each-share .ensures) in
+    let s = c .before .before .before .before .before .before .before .before .before .before .before .before .before .before in
+    let g = s .args in
+    let l₁ = part _ _ (renamed _ _ _ (wiping-parts (g .n)) (start _ _ _)) (c .before .before .before .before .before .before .before .before .before .before .before .each-share .ensures) in
     let l₂ = part _ _ l₁ (c .before .before .before .before .before .before .before .each-share2 .ensures) in
     let l₃ = part _ _ l₂ (c .before .before .before .put .ensures) in
-    omega (arith, room-last l₃ (c .before .before .before .before .before .before .before .before .before .before .before .before .before .before .pre) .fits)
+    omega (arith, room-last l₃ (s .pre) .fits)
 
 returns : tie.Need-returns
 returns c =
-    let l₁ = part _ _ (renamed _ _ _ (wiping-parts (c .before .before .before .before .before .before .before .before .before .before .before .before .before .before .before .before .before .args .n)) (start _ _ _)) (c .before .before .before .before .before .before .before .before .before .before .before .before .before .before .each-share .ensures) in
+    let s = c .before .before .before .before .before .before .before .before .before .before .before .before .before .before .before .before .before in
+    let g = s .args in
+    let l₁ = part _ _ (renamed _ _ _ (wiping-parts (g .n)) (start _ _ _)) (c .before .before .before .before .before .before .before .before .before .before .before .before .before .before .each-share .ensures) in
     let l₂ = part _ _ l₁ (c .before .before .before .before .before .before .before .before .before .before .each-share2 .ensures) in
     let l₃ = part _ _ l₂ (c .before .before .before .before .before .before .put .ensures) in
     last l₃ (c .before .before .put2 .ensures)
