@@ -39,6 +39,7 @@ partStep (Wipe c) i = Const (c + i) 0
 abbrev pub Registers : Step → Type 0
 Registers s = Each (λ r. r < 40) (dest s ∷ reads s)
 
+-- Wipe names its first cell
 abbrev pub OnceRegisters : Once → Type 0
 OnceRegisters (Own s) = Registers s
 OnceRegisters (CopyIn b) = b < 40
