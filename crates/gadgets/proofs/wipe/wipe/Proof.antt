@@ -28,7 +28,7 @@ loop-again : tie.Need-loop-again Inv-loop μ-loop
 loop-again c =
     let l = c .before .loop in (
       omega arith,
-      length-set (set (l .cells) (256 + l .i) 0) (264 + l .i) 0 ∙ length-set (l .cells) (256 + l .i) 0 ∙ l .inv .1,
+      length-set (set (l .cells) _ 0) _ 0 ∙ length-set (l .cells) _ 0 ∙ l .inv .1,
       l .inv .2 ∙ from-turn (c .before .before .args .n) (l .i) (omega arith) (l .cells),
     )
 
