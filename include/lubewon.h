@@ -41,7 +41,7 @@
  *
  * A plan has words of kinds 1 to 8 on registers 0..31, a share program words of kinds 1 to 7 and 9 on cells 0..511; every other word is bad. Share
  * i of register r is cell 32 i + r; cells from 256 on are the translation's own: for n shares AND works in 256 + i, 264 + i, 272 and 273, and
- * leaves them zero; ADD has helpers in 288 + 8 i + h, h = 0..3, and leaves their shares. docs/PLANS.md shows how to write a plan.
+ * leaves them zero; ADD has helpers in 288 + 8 i + h, h = 0..3, and leaves shares there. docs/PLANS.md shows how to write a plan.
  */
 #ifndef LUBEWON_H
 #define LUBEWON_H
@@ -111,7 +111,7 @@ lubewon_answer lubewon_measure(size_t n, const uint32_t *plan, size_t plan_len);
 
 /* The share program of a plan for n shares, at the front of out; out stays as it is past the program's end. Turn-downs 1 to 4: 4 where out is
  * shorter than measured. Counts are Measure's. A program stored by a version before 0.12 still runs, but leaves AND's cells unwiped: translate
- * it anew. */
+ * its plan anew. */
 lubewon_answer lubewon_translate(size_t n, const uint32_t *plan, size_t plan_len, uint32_t *out, size_t out_len);
 
 /* A plan on exactly 32 plain cells, its registers. Turn-downs 2, 3, 4. No counts. */

@@ -175,5 +175,5 @@ void test_runs_in_a_row(void) {
             word_by_word(n, plan, len);
         }
     }
-    end("random plans for n = 2..8: in pieces, in a go, step by step, joined against plain run, short tapes");
+    end("random plans for n = 2..8: in pieces, in a go, step by step, joined against plain run, scratch wiped, short tapes");
 }

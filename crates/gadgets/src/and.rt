@@ -1,4 +1,4 @@
-// AND: the cross products behind fresh words, over a refreshed copy of b.
+// AND: the cross products behind fresh words, over a refreshed copy of b; then its scratch cells are wiped.
 ghost use Prim.Native.Nat.{_≤_};
 ghost use mathlib.Core.Path.{_≡_};
 ghost use lib.ListN.{length};

@@ -1,4 +1,4 @@
-// The end of AND: its scratch cells hold nothing of its operands. This comes behind the copy of z to d, not behind the last use of t and u:
+// The end of AND: its scratch cells hold nothing of its operands. This comes after the copy of z to d, not after the last use of t and u:
 // the stores to these keep masked sums apart, and right before a wipe they would be dead to the compiler. tests/leakage looks at its code.
 ghost use mathlib.Core.Path.{_≡_};
 ghost use Prim.Native.Nat.{_≤_};

@@ -1,14 +1,16 @@
 -- What each statement of the claims consists of, by name: a part that is lost from one, or a condition that is added, fails here. The parts of
 -- a list of runs, which are the heart of demand 3, are said once more over the machines' own definitions.
 use mathlib.Core.Path.{_≡_}
-use mathlib.Core.List.{List, _∷_, _++_}
-use Prim.Native.Nat.{ℕ, suc, _+_, _-_, _≤_, _<_, min}
-use lib.Dec.{T}
+use mathlib.Core.Logic.{_⊎_, inl, inr}
+use mathlib.Core.List.{List, [], _∷_, _++_}
+use Prim.Native.Nat.{ℕ, zero, suc, _+_, _-_, _≤_, _<_, min}
+use native.Mathlib.Omega.{arith}
+use lib.Dec.{T, eqb}
 use lib.ListN.{length, getD, take, drop}
-use mathlib.Core.Bool.{Bool}
+use mathlib.Core.Bool.{Bool, _||_}
 use Rattle.word.specs.declared.step.Step.{Step}
 use Rattle.word.specs.declared.step.Decoded.{Decoded}
-use Rattle.word.specs.Encoding.{fieldD}
+use Rattle.word.specs.Encoding.{kindOf, fieldD}
 use Rattle.checks.specs.Answers as answers
 use Rattle.plain.specs.Machine.{run}
 use Rattle.masking.specs.Translation.{program}
@@ -25,6 +27,7 @@ use Rattle.masking.specs.Foretold.{Accepted}
 use Rattle.masking.specs.Counts.{StepCounts, PlanCounts, Counts}
 use Rattle.masking.specs.Wiped.{holdsAndOrAdd, Wiped}
 use Rattle.masking.specs.Secrecy.{Tape, Pairing, Hidden, Secret}
+use Rattle.masking.proofs.emitted.Tests.{or-right}
 use Rattle.masking.specs.Demand3.{EachRun, InARow, Demand3}
 use Rattle.masking.specs.Leaks.{Leak}
 use Rattle.masking.specs.EveryShare.{JoinsWrongly}
@@ -164,6 +167,17 @@ module _ (P tape : List ℕ) (st : State) (b : ℕ) (R : EachRun P tape st b) wh
       → runAnswer P tape st b ≡ answers.done (min b (length P - st .place)) (rands (take b (drop (st .place) P)))
   done = R .else
 
+-- word j of a plan is AND or ADD: then the plan holds one
+AndOrAdd : List ℕ → ℕ → Type 0
+AndOrAdd plan j = (j < length plan) × ((kindOf (getD plan j 0) ≡ 3) ⊎ (kindOf (getD plan j 0) ≡ 8))
+
+held : (plan : List ℕ) (j : ℕ) → AndOrAdd plan j → T (holdsAndOrAdd plan)
+unfolding AndOrAdd
+held [] j h = absurd (omega (arith, h .0))
+held (w ∷ ws) zero (l, inl e) = rw e tt
+held (w ∷ ws) zero (l, inr e) = rw e tt
+held (w ∷ ws) (suc j) h = or-right (eqb (kindOf w) 3 || eqb (kindOf w) 8) (holdsAndOrAdd ws) (held ws j (omega (arith, h .0), h .1))
+
 -- a list of runs: the cells and places after it, its sums, joined registers, wiped scratch cells, and tape enough
 module _ (n : ℕ) (plan start tape : List ℕ) (place : ℕ) (budgets : List ℕ) (D : InARow n plan start tape place budgets) where
   abbrev P : List ℕ
@@ -206,14 +220,14 @@ module _ (n : ℕ) (plan start tape : List ℕ) (place : ℕ) (budgets : List �
       × (getD (after budgets .cells) 272 0 ≡ 0)
       × (getD (after budgets .cells) 273 0 ≡ 0)
 
-  zero : Wiped n (after budgets .cells) → Zero
-  zero h = (λ i l. (h .y i l, h .z i l), h .t, h .u)
+  zeros : Wiped n (after budgets .cells) → Zero
+  zeros h = (λ i l. (h .y i l, h .z i l), h .t, h .u)
 
-  wiped-whole : m ≡ length P → T (holdsAndOrAdd plan) → Zero
-  wiped-whole e h = zero (D .wiped-whole e h)
+  wiped-whole : m ≡ length P → (j : ℕ) → AndOrAdd plan j → Zero
+  wiped-whole e j h = zeros (D .wiped-whole e (held plan j h))
 
-  wiped : (k : ℕ) → m ≡ length (program n (take k plan)) → T (holdsAndOrAdd (take k plan)) → Zero
-  wiped k e h = zero (D .wiped k e h)
+  wiped : (k : ℕ) → m ≡ length (program n (take k plan)) → (j : ℕ) → AndOrAdd (take k plan) j → Zero
+  wiped k e j h = zeros (D .wiped k e (held (take k plan) j h))
 
   enough : foretoldTape n plan ≤ length tape - place → (before rest : List ℕ) (b : ℕ) → budgets ≡ before ++ (b ∷ rest) → runAnswer P tape (after before) b .number ≡ 0
   enough = D .enough

@@ -13,9 +13,10 @@ use Rattle.bits.specs.Adder.{adder}
 use Rattle.word.specs.declared.step.Step.{Step}
 use Rattle.word.specs.declared.step.Decoded.{Decoded}
 use Rattle.word.specs.Encoding.{planStep, inPlan, inProgram}
+use Rattle.word.specs.Layout.{lengthOf, tapeOf, programMax}
 use Rattle.word.specs.Parts.{OfParts, OfNone}
 use Rattle.checks.specs.Answers.{FirstBad, firstBad}
-use Rattle.masking.specs.Translation.{program}
+use Rattle.masking.specs.Translation.{scratch, scratchCells, program}
 use Rattle.masking.specs.Foretold.{Accepted, foretoldTape, foretoldWords}
 use Rattle.masking.specs.Machine.{Start, execSteps}
 use Rattle.masking.specs.Unsplit.{joined}
@@ -102,6 +103,14 @@ module _ (C : Claims) where
   plan-counted : (n : ℕ) (plan : List ℕ) → Accepted n plan → PlanCounts n plan
   plan-counted = C .counts .plan
 
+  figures : ((lengthOf 3 2 ≡ 22) × (tapeOf 3 2 ≡ 2) × (lengthOf 8 2 ≡ 306) × (tapeOf 8 2 ≡ 24))
+      × ((lengthOf 3 8 ≡ 322) × (tapeOf 3 8 ≡ 56) × (lengthOf 8 8 ≡ 4032) × (tapeOf 8 8 ≡ 672))
+      × (programMax ≡ 8257536)
+  figures = (C .counts .at-2, C .counts .at-8, C .counts .limit)
+
+  scratch-counted : (n : ℕ) → length (scratchCells scratch n) ≡ 2 * n + 2
+  scratch-counted = C .counts .scratch-count
+
   -- demand 3: both halves, for all that it is about
   runs : (n : ℕ) (plan : List ℕ) → Accepted n plan → (start tape : List ℕ) → Start start → ((k : ℕ) → getD tape k 0 < 2 ^ 64)
       → (place : ℕ) → place ≤ length tape → (budgets : List ℕ) → InARow n plan start tape place budgets
@@ -125,7 +134,7 @@ module _ (C : Claims) where
 
   wiped-first : (n d : ℕ) → n ≤ 8 → d < 32 → (before : List Step) (cells tape : List ℕ) → Start cells → ((k : ℕ) → getD tape k 0 < 2 ^ 64)
       → joined n (execSteps (wipedFirst n d before) tape cells) d ≡ 0
-  wiped-first = C .wiped-first-wrong
+  wiped-first = C .wiped-first-zero
 
   every-share : JoinsWrongly 2 × JoinsWrongly 4 × JoinsWrongly 6 × JoinsWrongly 8
   every-share = C .every-share-wrong

@@ -9,7 +9,7 @@ use Rattle.plain.specs.Examples.{WordExamples}
 use Rattle.masking.specs.Counts.{Counts}
 use Rattle.masking.specs.Demand3.{Demand3Holds}
 use Rattle.masking.specs.Leaks.{UnrefreshedLeaks}
-use Rattle.masking.specs.WipedFirst.{WipedFirstWrong}
+use Rattle.masking.specs.WipedFirst.{WipedFirstZero}
 use Rattle.masking.specs.EveryShare.{EveryShareWrong}
 use Rattle.masking.specs.Examples.{TranslationExamples}
 use Rattle.translation.specs.Tied.{TranslateTied}
@@ -39,7 +39,7 @@ pub record Claims : Type 0 where
   -- and that an AND on two shares without its refresh has no such secrecy
   pub unrefreshed-leaks : UnrefreshedLeaks
   -- that an AND which wipes before it copies z to d gives shares of 0, and that NOT and CONST in every share join wrongly at even n
-  pub wiped-first-wrong : WipedFirstWrong
+  pub wiped-first-zero : WipedFirstZero
   pub every-share-wrong : EveryShareWrong
   -- numbers: what rounding and the whole numbers mean, the one fact about dropping low bits, where the results are IEEE 754's, the corners, the tables of edges
   pub rounding-means : RoundingMeans

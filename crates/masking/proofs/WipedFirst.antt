@@ -14,7 +14,7 @@ use Rattle.word.specs.Encoding.{inProgram}
 use Rattle.masking.specs.Translation.{shares, shareCell, scratch, scratchCells, wiping}
 use Rattle.masking.specs.Machine.{Words, execSteps, randsOf}
 use Rattle.masking.specs.Unsplit.{joined, xorOver}
-use Rattle.masking.specs.WipedFirst.{WipedFirstWrong}
+use Rattle.masking.specs.WipedFirst.{WipedFirstZero}
 use Rattle.masking.proofs.emitted.Places.{places}
 use Rattle.masking.proofs.emitted.Wiping.{each-scratch, scratch-parts}
 use Rattle.masking.proofs.emitted.Tests.{All, all-append}
@@ -61,7 +61,7 @@ module _ (n d : ℕ) (most : n ≤ 8) (ld : d < 32) where
       ∙ after-run (W ++ copy) (λ e. joinOf n e d ≡ 0) (at l)
       (after-then W copy (Zeroed n scratch) (λ e. joinOf n e d ≡ 0) (at l) (wiping-zeroes (scratchCells scratch n) (at l)) copied) tape words
 
-pub wiped-first-wrong : WipedFirstWrong
-wiped-first-wrong n d most ld before cells tape S words =
+pub wiped-first-zero : WipedFirstZero
+wiped-first-zero n d most ld before cells tape S words =
     ap (λ (l : List ℕ). joined n l d) (exec-steps-append before (W n d most ld ++ copy n d most ld) tape cells)
     ∙ late n d most ld (execSteps before tape cells) (drop (randsOf before) tape) (exec-steps-size before tape cells ∙ S .size) (drop-words tape words (randsOf before))

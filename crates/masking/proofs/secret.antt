@@ -1,5 +1,5 @@
 -- What the steps of a translation hide: steps as acts (Acts), two runs in step and the pairing that they give (Wp), how shares meet in
--- pairs (Meeting), a step for each share (EachShare), agreement of registers (Registers), the parts of the AND block (Refresh, Products)
+-- pairs (Meeting), a step for each share (EachShare), agreement of registers (Registers), the parts of AND's steps (Refresh, Products)
 -- and the whole (AndSecret), sets of shares and what marks put into them (Sets, Assigned, AndMarked), what steps read (Reading), rows of
 -- gadgets (Gadgets), blocks as gadgets (Blocks), the pairing over lists of cells (Hidden), the theorem (Secret), and its form over lists of
 -- share runs (SecretRuns).

@@ -13,7 +13,8 @@ abbrev pub holdsAndOrAdd : List ℕ → Bool
 holdsAndOrAdd [] = false
 holdsAndOrAdd (w ∷ ws) = (eqb (kindOf w) 3 || eqb (kindOf w) 8) || holdsAndOrAdd ws
 
--- "those 2n + 2 cells are zero": y and z of each of n shares, t and u
+-- "those 2n + 2 cells are zero": y and z of each of n shares, t and u. (A cell past the end reads 0 too; `size` of `InARow` says that there are
+-- 512.)
 pub record Wiped (n : ℕ) (cells : List ℕ) : Type 0 where
   pub y : (i : ℕ) → i < n → getD cells (cellY i) 0 ≡ 0
   pub z : (i : ℕ) → i < n → getD cells (cellZ i) 0 ≡ 0

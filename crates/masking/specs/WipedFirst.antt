@@ -13,6 +13,6 @@ use Rattle.masking.specs.Unsplit.{joined}
 abbrev pub wipedFirst : ℕ → ℕ → List Step → List Step
 wipedFirst n d before = before ++ (wiping (scratchCells scratch n) ++ map (λ i. Shl (shareCell i d) (scratch .z i) 0) (shares n))
 
-abbrev pub WipedFirstWrong : Type 0
-WipedFirstWrong = (n d : ℕ) → n ≤ 8 → d < 32 → (before : List Step) (cells tape : List ℕ) → Start cells → Words tape
+abbrev pub WipedFirstZero : Type 0
+WipedFirstZero = (n d : ℕ) → n ≤ 8 → d < 32 → (before : List Step) (cells tape : List ℕ) → Start cells → Words tape
     → joined n (execSteps (wipedFirst n d before) tape cells) d ≡ 0

@@ -1,5 +1,6 @@
--- The record Counts of specs: the lengths and tape words that document 01 gives for each kind of plan word, the kinds and cells of the
--- share steps, and their sums over a plan. Lengths and tape words are computed at each share count of 2..8; the rest is Good's and Steps's.
+-- The record Counts of specs: the lengths and tape words that the documents give for each kind of plan word, the kinds and cells of the
+-- share steps, and their sums over a plan. Lengths and tape words are computed at each share count of 2..8; the rest is Good's, Steps's and
+-- Wiping's.
 use mathlib.Core.Path.{_≡_, refl, ap, ap₂, _∙_}
 use mathlib.Core.List.{List, [], _∷_, _++_, map}
 use Prim.Native.Nat.{ℕ, zero, suc, _+_, _-_, _*_, _≤_}

@@ -1,4 +1,5 @@
--- What holds of every share step on named cells holds of all share steps of a step on registers. Rests on word's Ranges, Tests and Pairs.
+-- What holds of every share step on named cells holds of all share steps of a step on registers. Rests on word's Ranges, Tests, Pairs and
+-- Wiping.
 use mathlib.Core.Bool.{not}
 use mathlib.Core.List.{List, [], _∷_, map}
 use Prim.Native.Nat.{ℕ, zero, suc, _<_}

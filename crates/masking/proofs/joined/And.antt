@@ -1,5 +1,6 @@
 -- AND on shares joins to the AND of the joined words and changes no other register, over any scratch places that lie apart. d, a and b
--- may be one register: d is written last, from z. Rests on Refresh, Products and Once's step for each share.
+-- may be one register: d is written after the last read of a and b, from z, and the wiping that follows writes no share. Rests on Refresh, Products,
+-- Once's step for each share, and Zeroed.
 use mathlib.Core.Path.{_≡_, refl, sym, ap, ap₂, _∙_}
 use mathlib.Core.List.{List, map}
 use Prim.Native.Nat.{ℕ, _<_}

@@ -1,4 +1,4 @@
--- The AND block for any marks: the sets that marks and the shares S wanted afterwards ask for, their sizes, and the block's secrecy where
+-- AND's steps for any marks: the sets that marks and the shares S wanted afterwards ask for, their sizes, and the steps' secrecy where
 -- marks and S together are fewer than n.
 use mathlib.Core.Path.{_≡_, ap, _∙_}
 use mathlib.Core.Bool.{Bool}

@@ -1,4 +1,4 @@
--- The AND block. Over sets of shares A, B, K and a share k outside B and K with K in A: if the machines agree in the shares A of the
+-- AND's steps (Blocks adds the wiping). Over sets of shares A, B, K and a share k outside B and K with K in A: if the machines agree in the shares A of the
 -- first operand and B of the second, and the marks ask for no more than `AndAsks` says, marked words are equal, and the target agrees in
 -- the shares S of K in which all registers agreed before.
 use mathlib.Core.Path.{_≡_, refl, sym, ap, ap₂}
@@ -22,7 +22,7 @@ use Rattle.masking.proofs.secret.Refresh.{Refreshed, refresh-wp, refres
 use Rattle.masking.proofs.secret.Products.{PairsAsk, products-wp, products-off}
 use Rattle.masking.proofs.secret.Registers.{Agreed, adds, fewer, past-write, past-acts, joins, share-write, share-inj}
 
--- the five parts of the block
+-- the five parts of the steps
 module _ (sc : Scratch) (n d a b : ℕ) where
   open Scratch sc using (y, z)
 
