@@ -1,7 +1,7 @@
-/* An independent reading of document 01 in plain C, and of document 02 for the roundings and the end of AND: step words, the plain machine, translation for
- * n shares, the share machine, the operations on numbers, split and join. Written for the C test from the documents alone; it shares nothing with
- * the library and is slow and plain on purpose. Each call takes what the library's call takes, gives its answer and leaves its lent words as the
- * documents say. */
+/* An independent reading of document 01 in plain C, and of document 02 for the roundings and the end of AND: step words, the plain machine,
+ * translation for n shares, the share machine, the operations on numbers, split and join. Written for the C test from the documents alone; it
+ * shares nothing with the library and is slow and plain on purpose. Each call takes what the library's call takes, gives its answer and leaves
+ * its lent words as the documents say. */
 #ifndef REFERENCE_H
 #define REFERENCE_H
 

@@ -1,4 +1,5 @@
--- Demand 3, assembled: lists of share runs (InARow), joined results (joined.Plan), wiped scratch cells (joined.Wiped), counts (Counts) and secrecy (secret.SecretRuns).
+-- Demand 3, assembled: lists of share runs (InARow), joined results (joined.Plan), wiped scratch cells (joined.Wiped), counts (Counts) and
+-- secrecy (secret.SecretRuns).
 use mathlib.Core.Path.{_≡_, refl, sym, ap, ap₂, _∙_, subst}
 use mathlib.Core.List.{List}
 use Prim.Native.Nat.{ℕ, _+_, _-_, _≤_}

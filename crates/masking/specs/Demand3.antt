@@ -49,8 +49,9 @@ module _ (n : ℕ) (plan start tape : List ℕ) (tapePlace : ℕ) where
     -- "After the list the cells are what the first m words make of the start, m the sum of the words done; the tape words used are the
     -- RANDs among those m."
     pub cells : left budgets .cells ≡ exec (take (m budgets) words) (drop tapePlace tape) start
-    pub size : length (left budgets .cells) ≡ 512
     pub rand : used budgets ≡ rands (take (m budgets) words)
+    -- the cells stay 512
+    pub size : length (left budgets .cells) ≡ 512
     -- the places moved on by just these sums
     pub place : left budgets .place ≡ m budgets
     pub tapeMoved : left budgets .tapePlace ≡ tapePlace + used budgets

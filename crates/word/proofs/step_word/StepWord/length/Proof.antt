@@ -7,27 +7,6 @@ use borrow.Author.Needs.{needs}
 use Rattle.word.proofs.step_word.StepWord.length.Statement.{statement}
 use Rattle.word.proofs.step_word.StepWord.length.Tie as tie
 
-mul-result : tie.Need-mul-result
-mul-result c = omega (arith, square-lt (c .before .args .n) (omega arith))
-
-mul-result-2 : tie.Need-mul-result-2
-mul-result-2 c = omega (arith, square-lt (c .before .args .n) (omega arith))
-
-add-result : tie.Need-add-result
-add-result c = omega (arith, square-lt (c .before .args .n) (omega arith))
-
-mul-result-3 : tie.Need-mul-result-3
-mul-result-3 c = omega (arith, square-lt (c .before .args .n) (omega arith))
-
-mul-result-4 : tie.Need-mul-result-4
-mul-result-4 c = omega (arith, square-lt (c .before .args .n) (omega arith))
-
-add-result-2 : tie.Need-add-result-2
-add-result-2 c = omega (arith, square-lt (c .before .args .n) (omega arith))
-
-add-result-3 : tie.Need-add-result-3
-add-result-3 c = omega (arith, square-lt (c .before .args .n) (omega arith))
-
 returns : tie.Need-returns
 unfolding lengthOf
 returns c = rw (c .match .keys1)
@@ -44,14 +23,14 @@ pub length-spec : {M : Type 1} → statement M
 length-spec =
     tie.close
     (tie.spec
-    mul-result
-    mul-result-2
-    add-result
-    mul-result-3
-    mul-result-4
+    (λ c. omega (arith, square-lt (c .before .args .n) (omega arith)))
+    (λ c. omega (arith, square-lt (c .before .args .n) (omega arith)))
+    (λ c. omega (arith, square-lt (c .before .args .n) (omega arith)))
+    (λ c. omega (arith, square-lt (c .before .args .n) (omega arith)))
+    (λ c. omega (arith, square-lt (c .before .args .n) (omega arith)))
     (λ c. search needs)
-    add-result-2
-    add-result-3
+    (λ c. omega (arith, square-lt (c .before .args .n) (omega arith)))
+    (λ c. omega (arith, square-lt (c .before .args .n) (omega arith)))
     returns
     returns-2
     returns-3)
