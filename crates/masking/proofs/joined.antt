@@ -1,6 +1,6 @@
 -- What a translation computes joined: cells as a function (Cells), runs over any tape (After), exclusive-ors over shares (Sums), a step
 -- once per share (Once), cells wiped (Zeroed), AND by its parts (Refresh, Products, And), blocks against the unsplit machine (Blocks), ADD (Add),
--- and plans (Plan); and AND's scratch cells after a plan (Wiped).
+-- and plans (Plan); AND's scratch cells after a plan (Wiped), and runs beside other cells (Beside).
 pub mod Cells
 pub mod After
 pub mod Sums
@@ -13,3 +13,4 @@ pub mod Blocks
 pub mod Add
 pub mod Plan
 pub mod Wiped
+pub mod Beside
