@@ -1,20 +1,26 @@
 -- The operations' results: over a tape as long as foretold a whole share run is done, and its register 2 joins to the operation on the joined
--- operands. One lemma over any plan that computes an operation. Rests on Placed, Plans, masking's joined results, and the plans' theorems.
+-- operands. One lemma over any plan that computes an operation. Over any plan the result's shares are words (`result-words`). Rests on Placed,
+-- Plans, masking's joined results and Beside, and the plans' theorems.
 use mathlib.Core.Path.{_≡_, refl, sym, ap, ap₂, _∙_}
 use mathlib.Core.List.{List, [], _∷_, map}
 use Prim.Native.Nat.{ℕ, zero, suc, _^_, _≤_, _<_}
 use native.Mathlib.Nat.{le-of-eq}
 use native.Mathlib.Omega.{arith}
+use lib.Dec.{T}
 use lib.ListN.{length, getD}
 use lib.Seq.{take-length}
 use lib.Pow.{pow-pos}
 use Rattle.bits.specs.Ops.{xorW}
+use Rattle.word.specs.Encoding.{inProgram}
 use Rattle.word.specs.Layout.{cell}
 use Rattle.plain.specs.Machine.{run}
 use Rattle.masking.specs.Translation.{upFrom, shares, program}
 use Rattle.masking.specs.Foretold.{Accepted, foretoldTape}
-use Rattle.masking.specs.Machine.{Words, exec}
+use Rattle.masking.specs.Machine.{Words, stepsOf, exec}
 use Rattle.masking.specs.Unsplit.{xorOver, joined, unsplit}
+use Rattle.masking.proofs.emitted.Tests.{All}
+use Rattle.masking.proofs.emitted.Steps.{program-steps, plan-good}
+use Rattle.masking.proofs.joined.Beside.{exec-words}
 use Rattle.masking.proofs.joined.Plan.{joined-after}
 use Rattle.masking.proofs.joined.Sums.{sum-lt}
 use Rattle.plans.specs.Computes.{Computes}
@@ -61,3 +67,13 @@ module _ (plan : List ℕ) (op : ℕ → ℕ → ℕ) (C : Computes plan op) (n 
 
 pub plan-joins : (plan : List ℕ) (op : ℕ → ℕ → ℕ) → Computes plan op → Joins plan op
 plan-joins plan op C n least most x y tape X Y W enough = result-joins plan op C n least most x y tape X (Y .words) (le-of-eq (Y .size)) W enough
+
+-- the result's shares are words
+pub result-words : (n : ℕ) (plan x y tape : List ℕ) → Accepted n plan → length x ≤ 8 → length y ≤ 8 → Words x → Words y → Words tape
+    → foretoldTape n plan ≤ length tape → Words (resultShares plan n x y tape)
+unfolding resultShares
+result-words n plan x y tape A lx ly wx wy W enough =
+    let good : All (λ s. T (inProgram s)) (stepsOf (program n plan)) = rw (program-steps n plan A) (plan-good n plan A) in
+    let words : Words (finished plan n x y tape) =
+    rw (finished-is n plan x y tape A enough) (exec-words (stepsOf (program n plan)) good tape (placed x y) W (placed-start x y lx ly wx wy .words)) in
+    map-words (λ i. getD (finished plan n x y tape) (cell i 2) 0) (λ i. words (cell i 2)) (shares n)
