@@ -1,5 +1,6 @@
 -- A step as one of two acts: it writes a word made of the cells, or the next tape word. The words that acts write are what the steps'
--- cells hold after them (`word-exec`), and acts draw as many tape words as the steps take. Rests on Cells.
+-- cells hold after them (`word-exec`), the cells after acts are those after the steps (`after-exec`), and acts draw as many tape words as the
+-- steps take. Rests on Cells.
 use mathlib.Core.Path.{_≡_, refl, sym, ap, _∙_}
 use mathlib.Core.List.{List, [], _∷_, _++_, map}
 use Prim.Native.Nat.{ℕ, zero, suc, _+_, _^_, _<_}
@@ -51,23 +52,30 @@ word (write d f ∷ P) (suc j) c ts = word P j (upd c d (f c)) ts
 word (draw d ∷ P) zero c ts = getD ts 0 0
 word (draw d ∷ P) (suc j) c ts = word P j (upd c d (getD ts 0 0)) (drop 1 ts)
 
--- ---- one step's act against the table: its draw, its word, and the words of the acts after it
+-- the cells after acts
+abbrev pub after : List Act → Cells → List ℕ → Cells
+after [] c ts = c
+after (write d f ∷ P) c ts = after P (upd c d (f c)) ts
+after (draw d ∷ P) c ts = after P (upd c d (getD ts 0 0)) (drop 1 ts)
+
+-- ---- one step's act against the table: its draw, its word, the words of the acts after it, and the cells after those
 pub record Acting (s : Step) : Type 0 where
   pub takes-one : (P : List Act) → draws (act s ∷ P) ≡ takes s + draws P
   pub here : (P : List Act) (c : Cells) (ts : List ℕ) → word (act s ∷ P) 0 c ts ≡ becomes s c (getD ts 0 0)
   pub later : (P : List Act) (j : ℕ) (c : Cells) (ts : List ℕ)
       → word (act s ∷ P) (suc j) c ts ≡ word P j (upd c (dest s) (becomes s c (getD ts 0 0))) (drop (takes s) ts)
+  pub ends : (P : List Act) (c : Cells) (ts : List ℕ) → after (act s ∷ P) c ts ≡ after P (upd c (dest s) (becomes s c (getD ts 0 0))) (drop (takes s) ts)
 
 pub acting : (s : Step) → Acting s
-acting (Const d k) = record { takes-one = λ P. omega arith; here = λ P c ts. refl; later = λ P j c ts. refl }
-acting (Xor d a b) = record { takes-one = λ P. omega arith; here = λ P c ts. refl; later = λ P j c ts. refl }
-acting (And d a b) = record { takes-one = λ P. omega arith; here = λ P c ts. refl; later = λ P j c ts. refl }
-acting (Not d a) = record { takes-one = λ P. omega arith; here = λ P c ts. refl; later = λ P j c ts. refl }
-acting (Shl d a b) = record { takes-one = λ P. omega arith; here = λ P c ts. refl; later = λ P j c ts. refl }
-acting (Shr d a b) = record { takes-one = λ P. omega arith; here = λ P c ts. refl; later = λ P j c ts. refl }
-acting (Spread d a) = record { takes-one = λ P. omega arith; here = λ P c ts. refl; later = λ P j c ts. refl }
-acting (Add d a b) = record { takes-one = λ P. omega arith; here = λ P c ts. refl; later = λ P j c ts. refl }
-acting (Rand d) = record { takes-one = λ P. omega arith; here = λ P c ts. refl; later = λ P j c ts. refl }
+acting (Const d k) = record { takes-one = λ P. omega arith; here = λ P c ts. refl; later = λ P j c ts. refl; ends = λ P c ts. refl }
+acting (Xor d a b) = record { takes-one = λ P. omega arith; here = λ P c ts. refl; later = λ P j c ts. refl; ends = λ P c ts. refl }
+acting (And d a b) = record { takes-one = λ P. omega arith; here = λ P c ts. refl; later = λ P j c ts. refl; ends = λ P c ts. refl }
+acting (Not d a) = record { takes-one = λ P. omega arith; here = λ P c ts. refl; later = λ P j c ts. refl; ends = λ P c ts. refl }
+acting (Shl d a b) = record { takes-one = λ P. omega arith; here = λ P c ts. refl; later = λ P j c ts. refl; ends = λ P c ts. refl }
+acting (Shr d a b) = record { takes-one = λ P. omega arith; here = λ P c ts. refl; later = λ P j c ts. refl; ends = λ P c ts. refl }
+acting (Spread d a) = record { takes-one = λ P. omega arith; here = λ P c ts. refl; later = λ P j c ts. refl; ends = λ P c ts. refl }
+acting (Add d a b) = record { takes-one = λ P. omega arith; here = λ P c ts. refl; later = λ P j c ts. refl; ends = λ P c ts. refl }
+acting (Rand d) = record { takes-one = λ P. omega arith; here = λ P c ts. refl; later = λ P j c ts. refl; ends = λ P c ts. refl }
 
 pub draws-rands : (ss : List Step) → draws (acts ss) ≡ randsOf ss
 draws-rands [] = refl
@@ -85,6 +93,14 @@ pub word-exec : (ss : List Step) (j : ℕ) → j < length ss → All (λ s. T (i
 word-exec ss j h good l ts e =
     word-on ss j h (at l) ts
     ∙ ap (λ (c : Cells). c (dest (getD ss j (Rand 0)))) (sym (exec-on (take (suc j) ss) (all-take (λ s. T (inProgram s)) (suc j) ss good) l ts e))
+
+after-on : (ss : List Step) (c : Cells) (ts : List ℕ) → after (acts ss) c ts ≡ stepsOn ss ts c
+after-on [] c ts = refl
+after-on (s ∷ ss) c ts = acting s .ends (acts ss) c ts ∙ after-on ss (upd c (dest s) (becomes s c (getD ts 0 0))) (drop (takes s) ts)
+
+-- the cells after all steps, over a list of cells
+pub after-exec : (ss : List Step) → All (λ s. T (inProgram s)) ss → (l ts : List ℕ) → length l ≡ 512 → after (acts ss) (at l) ts ≡ at (execSteps ss ts l)
+after-exec ss good l ts e = after-on ss (at l) ts ∙ sym (exec-on ss good l ts e)
 
 -- ---- acts that write words where the cells are words
 abbrev pub AllFit : List Act → Type 0

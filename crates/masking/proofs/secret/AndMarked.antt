@@ -51,6 +51,11 @@ module _ (sc : Scratch) (n d a b : ℕ) (m : Marks) (S : List ℕ) where
   pub setW : List ℕ
   setW = setA ++ setB
 
+  -- S is among them
+  pub keeps-W : (i : ℕ) → T (has S i) → T (has setW i)
+  unfolding setW
+  keeps-W i h = has-left setA setB i (has-left setK (marksA m3 (pairs (shares n))) i (has-left S ofResults i h))
+
   -- the shares that the unknown one is not to be
   abbrev setN : List ℕ
   setN = setK ++ (setB ++ marksN (has setK) m3 (pairs (shares n)))

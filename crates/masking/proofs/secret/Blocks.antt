@@ -22,7 +22,7 @@ use Rattle.masking.proofs.secret.Meeting.{In, in-shares, share-lt}
 use Rattle.masking.proofs.secret.Sets.{has, has-left, has-right, count, count-then}
 use Rattle.masking.proofs.secret.Assigned.{marked, asked-in, marked-count}
 use Rattle.masking.proofs.secret.Registers.{Agreed, adds, fewer, past-write, per-share}
-use Rattle.masking.proofs.secret.AndMarked.{setW, size-W, and-marked}
+use Rattle.masking.proofs.secret.AndMarked.{setW, keeps-W, size-W, and-marked}
 use Rattle.masking.proofs.secret.Reading.{readable, readable-parts, reading}
 use Rattle.masking.proofs.secret.Gadgets.{Gadget, row, Ready}
 
@@ -129,6 +129,7 @@ module _ (n w : ℕ) (sc : Scratch) (L : Places n w sc) where
         ready = λ R. readable w R s;
         before = λ m S. S ++ marked m (shares n);
         size = once-size (p .step);
+        keeps = λ m S. has-left S (marked m (shares n));
         hides = λ m S R h small c c′ g. once-hides s p m S R h c c′ g;
       }
 
@@ -166,6 +167,7 @@ module _ (n w : ℕ) (sc : Scratch) (L : Places n w sc) where
         ready = λ R. readable w R (And d a b);
         before = setW sc n d a b;
         size = and-size d a b;
+        keeps = keeps-W sc n d a b;
         hides = and-hides d a b;
       }
 
@@ -178,6 +180,7 @@ module _ (n w : ℕ) (sc : Scratch) (L : Places n w sc) where
         ready = λ R. false;
         before = λ m S. S;
         size = λ m S. omega arith;
+        keeps = λ m S i h. h;
         hides = λ m S R h. absurd h;
       }
 

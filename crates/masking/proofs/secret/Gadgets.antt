@@ -1,6 +1,7 @@
 -- A gadget is share steps for n shares that set one register, with what secrecy asks before them: for any marks on them and shares S that
--- are to agree afterwards, together fewer than n, the shares `before`, no more than both, in which agreement makes marked words equal.
--- A row of gadgets has the like: from the last to the first, `need` is the shares in which the machines have to agree at the start.
+-- are to agree afterwards, together fewer than n, the shares `before`, S among them and no more than both, in which agreement makes marked
+-- words equal. A row of gadgets has the like: from the last to the first, `need` is the shares in which the machines have to agree at the
+-- start.
 use mathlib.Core.Bool.{Bool}
 use mathlib.Core.List.{List, [], _∷_, _++_}
 use Prim.Native.Nat.{ℕ, _+_, _<_, _≤_}
@@ -10,9 +11,9 @@ use lib.ListN.{length}
 use Rattle.word.specs.declared.step.Step.{Step}
 use Rattle.masking.proofs.joined.Cells.{Cells}
 use Rattle.masking.proofs.secret.Acts.{acts}
-use Rattle.masking.proofs.secret.Wp.{Marks, wp, wp-then, past, Any}
+use Rattle.masking.proofs.secret.Wp.{Marks, wp, wp-mono, wp-then, past}
 use Rattle.masking.proofs.secret.Sets.{has, count, count-then}
-use Rattle.masking.proofs.secret.Registers.{Agreed, adds}
+use Rattle.masking.proofs.secret.Registers.{Agreed, adds, fewer-registers}
 
 pub record Gadget (n w : ℕ) : Type 0 where
   pub code : List Step
@@ -21,6 +22,7 @@ pub record Gadget (n w : ℕ) : Type 0 where
   pub ready : (ℕ → Bool) → Bool
   pub before : Marks → List ℕ → List ℕ
   pub size : (m : Marks) (S : List ℕ) → length (before m S) ≤ length S + count m (acts code)
+  pub keeps : (m : Marks) (S : List ℕ) (i : ℕ) → T (has S i) → T (has (before m S) i)
   pub hides : (m : Marks) (S : List ℕ) (R : ℕ → Bool) → T (ready R) → length S + count m (acts code) < n → (c c′ : Cells)
       → Agreed n w R (has (before m S)) c c′ → wp m (acts code) (Agreed n w (adds sets R) (has S)) c c′
 
@@ -34,21 +36,29 @@ module _ (n w : ℕ) where
   Ready R [] = Unit {0}
   Ready R (g ∷ gs) = T (g .ready R) × Ready (adds (g .sets) R) gs
 
-  abbrev pub need : List (Gadget n w) → Marks → List ℕ
-  need [] m = []
-  need (g ∷ gs) m = g .before m (need gs (past (acts (g .code)) m))
+  -- the shares in which to agree at the start, to end in agreement in S
+  abbrev pub need : List (Gadget n w) → Marks → List ℕ → List ℕ
+  need [] m S = S
+  need (g ∷ gs) m S = g .before m (need gs (past (acts (g .code)) m) S)
 
-  pub need-size : (gs : List (Gadget n w)) (m : Marks) → length (need gs m) ≤ count m (acts (row gs))
-  need-size [] m = omega arith
-  need-size (g ∷ gs) m =
+  pub need-size : (gs : List (Gadget n w)) (m : Marks) (S : List ℕ) → length (need gs m S) ≤ length S + count m (acts (row gs))
+  need-size [] m S = omega arith
+  need-size (g ∷ gs) m S =
       let m′ = past (acts (g .code)) m in
-      omega (arith, g .size m (need gs m′), need-size gs m′, count-then m (g .code) (row gs))
+      omega (arith, g .size m (need gs m′ S), need-size gs m′ S, count-then m (g .code) (row gs))
 
-  pub row-wp : (gs : List (Gadget n w)) (m : Marks) (R : ℕ → Bool) → Ready R gs → count m (acts (row gs)) < n → (c c′ : Cells)
-      → Agreed n w R (has (need gs m)) c c′ → wp m (acts (row gs)) Any c c′
-  row-wp [] m R h small c c′ q = tt
-  row-wp (g ∷ gs) m R h small c c′ q =
+  pub need-keeps : (gs : List (Gadget n w)) (m : Marks) (S : List ℕ) (i : ℕ) → T (has S i) → T (has (need gs m S) i)
+  need-keeps [] m S i h = h
+  need-keeps (g ∷ gs) m S i h =
       let m′ = past (acts (g .code)) m in
-      wp-then m (g .code) (row gs) (Agreed n w (adds (g .sets) R) (has (need gs m′))) Any c c′
-      (g .hides m (need gs m′) R (h .0) (omega (arith, count-then m (g .code) (row gs), need-size gs m′)) c c′ q)
-      (λ e e′ q. row-wp gs m′ (adds (g .sets) R) (h .1) (omega (arith, count-then m (g .code) (row gs))) e e′ q)
+      g .keeps m (need gs m′ S) i (need-keeps gs m′ S i h)
+
+  pub row-wp : (gs : List (Gadget n w)) (m : Marks) (S : List ℕ) (R : ℕ → Bool) → Ready R gs → length S + count m (acts (row gs)) < n → (c c′ : Cells)
+      → Agreed n w R (has (need gs m S)) c c′ → wp m (acts (row gs)) (Agreed n w R (has S)) c c′
+  row-wp [] m S R h small c c′ q = q
+  row-wp (g ∷ gs) m S R h small c c′ q =
+      let m′ = past (acts (g .code)) m in
+      wp-then m (g .code) (row gs) (Agreed n w (adds (g .sets) R) (has (need gs m′ S))) (Agreed n w R (has S)) c c′
+      (g .hides m (need gs m′ S) R (h .0) (omega (arith, count-then m (g .code) (row gs), need-size gs m′ S)) c c′ q)
+      (λ e e′ q. wp-mono m′ (acts (row gs)) (Agreed n w (adds (g .sets) R) (has S)) (Agreed n w R (has S)) e e′ (fewer-registers n w (g .sets) R (has S))
+      (row-wp gs m′ S (adds (g .sets) R) (h .1) (omega (arith, count-then m (g .code) (row gs))) e e′ q))

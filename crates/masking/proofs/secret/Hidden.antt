@@ -1,8 +1,8 @@
--- From two runs in step to the pairing of tapes, over lists of cells: `hides` for any share steps; then for any choice of fewer than n
+-- From two runs in step to the pairing of tapes, over lists of cells: `hides` and `ends` for any share steps; then for any choice of fewer than n
 -- steps and starts that agree in registers R, `row-hidden` for rows of gadgets and `blocks-hidden` for the blocks of steps on registers.
-use mathlib.Core.Path.{_≡_, sym, subst, _∙_}
+use mathlib.Core.Path.{_≡_, sym, subst, subst₂, _∙_}
 use mathlib.Core.Bool.{Bool}
-use mathlib.Core.List.{List, map}
+use mathlib.Core.List.{List, [], map}
 use Prim.Native.Nat.{ℕ, suc, _<_, _≤_}
 use native.Mathlib.Omega.{arith}
 use lib.Dec.{T}
@@ -17,9 +17,10 @@ use Rattle.masking.specs.Secrecy.{Tape, Pairing}
 use Rattle.masking.proofs.emitted.Tests.{All}
 use Rattle.masking.proofs.emitted.Places.{Places}
 use Rattle.masking.proofs.joined.Cells.{at}
-use Rattle.masking.proofs.secret.Acts.{acts, draws-rands, word-exec, all-fit}
-use Rattle.masking.proofs.secret.Wp.{wp, Any, there, back, back-there, there-back, there-length, back-length, there-words, back-words, paired-words}
+use Rattle.masking.proofs.secret.Acts.{acts, draws-rands, word-exec, after-exec, all-fit}
+use Rattle.masking.proofs.secret.Wp.{Rel, wp, there, back, back-there, there-back, there-length, back-length, there-words, back-words, paired-words, paired-ends}
 use Rattle.masking.proofs.secret.Sets.{has, count, count-has, below, below-lt, below-has, below-size}
+use Rattle.masking.proofs.secret.Registers.{Agreed}
 use Rattle.masking.proofs.secret.Reading.{reading}
 use Rattle.masking.proofs.secret.Gadgets.{Gadget, row, Ready, need, need-size, row-wp}
 use Rattle.masking.proofs.secret.Blocks.{gadget, row-blocks, blocks-ready}
@@ -33,12 +34,17 @@ pub record Hides (ss : List Step) (js l l′ : List ℕ) : Type 0 where
   pub pairing : Pairing (randsOf ss)
   pub equal : (tape : List ℕ) → Tape (randsOf ss) tape → (j : ℕ) → j < length ss → T (has js j) → wordAt ss j tape l ≡ wordAt ss j (pairing .there tape) l′
 
-module _ (ss : List Step) (good : All (λ s. T (inProgram s)) ss) (js l l′ : List ℕ) (st : Start l) (st′ : Start l′) (p : wp (has js) (acts ss) Any (at l) (at l′)) where
+-- tapes pair off, and paired runs end as Ψ says
+pub record Ends (Ψ : Rel) (ss : List Step) (l l′ : List ℕ) : Type 0 where
+  pub pairing : Pairing (randsOf ss)
+  pub end : (tape : List ℕ) → Tape (randsOf ss) tape → Ψ (at (execSteps ss tape l)) (at (execSteps ss (pairing .there tape) l′))
+
+module _ (ss : List Step) (good : All (λ s. T (inProgram s)) ss) (js l l′ : List ℕ) (st : Start l) (st′ : Start l′) (Ψ : Rel) (p : wp (has js) (acts ss) Ψ (at l) (at l′)) where
   to : List ℕ → List ℕ
-  to = there (has js) (acts ss) Any (at l) (at l′) p
+  to = there (has js) (acts ss) Ψ (at l) (at l′) p
 
   from : List ℕ → List ℕ
-  from = back (has js) (acts ss) Any (at l) (at l′) p
+  from = back (has js) (acts ss) Ψ (at l) (at l′) p
 
   pair : Pairing (randsOf ss)
   unfolding to from
@@ -48,16 +54,16 @@ module _ (ss : List Step) (good : All (λ s. T (inProgram s)) ss) (js l l′ : L
         back = from;
         there-tape = λ ts h.
             record {
-              size = there-length (has js) (acts ss) Any (at l) (at l′) p ts ∙ h .size;
-              words = there-words (has js) (acts ss) Any (at l) (at l′) p ts (all-fit ss good) (st .words) (st′ .words) (h .words);
+              size = there-length (has js) (acts ss) Ψ (at l) (at l′) p ts ∙ h .size;
+              words = there-words (has js) (acts ss) Ψ (at l) (at l′) p ts (all-fit ss good) (st .words) (st′ .words) (h .words);
             };
         back-tape = λ ts h.
             record {
-              size = back-length (has js) (acts ss) Any (at l) (at l′) p ts ∙ h .size;
-              words = back-words (has js) (acts ss) Any (at l) (at l′) p ts (all-fit ss good) (st .words) (st′ .words) (h .words);
+              size = back-length (has js) (acts ss) Ψ (at l) (at l′) p ts ∙ h .size;
+              words = back-words (has js) (acts ss) Ψ (at l) (at l′) p ts (all-fit ss good) (st .words) (st′ .words) (h .words);
             };
-        back-there = λ ts h. back-there (has js) (acts ss) Any (at l) (at l′) p ts;
-        there-back = λ ts h. there-back (has js) (acts ss) Any (at l) (at l′) p ts;
+        back-there = λ ts h. back-there (has js) (acts ss) Ψ (at l) (at l′) p ts;
+        there-back = λ ts h. there-back (has js) (acts ss) Ψ (at l) (at l′) p ts;
       }
 
   pub hides : Hides ss js l l′
@@ -67,8 +73,18 @@ module _ (ss : List Step) (good : All (λ s. T (inProgram s)) ss) (js l l′ : L
         pairing = pair;
         equal = λ ts h j lj x.
             sym (word-exec ss j lj good l ts (st .size))
-            ∙ paired-words (has js) (acts ss) Any (at l) (at l′) p ts (draws-rands ss ∙ sym (h .size)) j x
+            ∙ paired-words (has js) (acts ss) Ψ (at l) (at l′) p ts (draws-rands ss ∙ sym (h .size)) j x
             ∙ word-exec ss j lj good l′ (to ts) (st′ .size);
+      }
+
+  pub ends : Ends Ψ ss l l′
+  unfolding pair to
+  ends =
+      record {
+        pairing = pair;
+        end = λ ts h.
+            subst₂ Ψ (after-exec ss good l ts (st .size)) (after-exec ss good l′ (to ts) (st′ .size))
+            (paired-ends (has js) (acts ss) Ψ (at l) (at l′) p ts (draws-rands ss ∙ sym (h .size)));
       }
 
 -- two starts agree in the shares S of the registers R among w
@@ -85,15 +101,15 @@ pub row-hidden : (n w : ℕ) (gs : List (Gadget n w)) (R : ℕ → Bool) → Rea
     → length js < n → HiddenIn n w R (row n w gs) js
 row-hidden n w gs R ready good js few = (
   below n S,
-  omega (arith, below-size n S, need-size n w gs (has js), marks),
+  omega (arith, below-size n S, need-size n w gs (has js) [], marks),
   below-lt n S,
   λ l l′ st st′ g.
-      hides (row n w gs) good js l l′ st st′
-      (row-wp n w gs (has js) R ready (omega (arith, marks)) (at l) (at l′) (λ i r li lr k x. g i (below-has n S i li x) r lr k)),
+      hides (row n w gs) good js l l′ st st′ (Agreed n w R (has []))
+      (row-wp n w gs (has js) [] R ready (omega (arith, marks)) (at l) (at l′) (λ i r li lr k x. g i (below-has n S i li x) r lr k)),
 )
   where
     S : List ℕ
-    S = need n w gs (has js)
+    S = need n w gs (has js) []
 
     marks : count (has js) (acts (row n w gs)) ≤ length js
     marks = count-has js (acts (row n w gs))

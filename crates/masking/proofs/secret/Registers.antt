@@ -8,7 +8,7 @@ use native.Mathlib.Decide.{ℕ-discrete}
 use lib.Dec.{T, eqb, eqb→eq}
 use Rattle.word.specs.declared.step.Step.{Step}
 use Rattle.masking.specs.Translation.{Scratch, shareCell}
-use Rattle.masking.proofs.emitted.Tests.{or-elim}
+use Rattle.masking.proofs.emitted.Tests.{or-right, or-elim}
 use Rattle.masking.proofs.emitted.Places.{Places}
 use Rattle.masking.proofs.joined.Cells.{Cells, upd, upd-same}
 use Rattle.masking.proofs.secret.Acts.{Act, write, act, acts}
@@ -26,6 +26,10 @@ module _ (n w : ℕ) where
 
   pub fewer : (R S W : ℕ → Bool) → ((i : ℕ) → T (S i) → T (W i)) → (c c′ : Cells) → Agreed R W c c′ → Agreed R S c c′
   fewer R S W sub c c′ g i r l lr q s = g i r l lr q (sub i s)
+
+  -- one register fewer
+  pub fewer-registers : (d : ℕ) (R S : ℕ → Bool) (c c′ : Cells) → Agreed (adds d R) S c c′ → Agreed R S c c′
+  fewer-registers d R S c c′ g i r l lr q s = g i r l lr (or-right (eqb r d) (R r) q) s
 
   -- the agreement passes a write elsewhere, and acts that write elsewhere
   pub past-write : (R S : ℕ → Bool) (c c′ : Cells) (x v v′ : ℕ) → ((i r : ℕ) → i < n → r < w → shareCell i r ≡ x → ⊥)

@@ -68,7 +68,7 @@ field-at (s ∷ ss) h zero l = word-dest s (h .0)
 field-at (s ∷ ss) h (suc j) l = field-at ss (h .1) j (omega arith)
 
 -- a plan's steps on registers read the plan's registers, and helpers written before
-plan-reading : (plan : List ℕ) → PlanWords plan → (R : ℕ → Bool) → ((r : ℕ) → r < 32 → T (R r)) → T (reading 40 R (planSteps plan))
+pub plan-reading : (plan : List ℕ) → PlanWords plan → (R : ℕ → Bool) → ((r : ℕ) → r < 32 → T (R r)) → T (reading 40 R (planSteps plan))
 plan-reading [] h R g = tt
 plan-reading (w ∷ ws) h R g =
     reading-append 40 R (stepsFor (planStep w)) (planSteps ws) (rw (h .0 .apart) (laid-reading R g (h .0 .step) (h .0 .inRange)))
@@ -87,7 +87,7 @@ module _ (n : ℕ) (plan : List ℕ) (A : Accepted n plan) where
       ap₂ (λ (ss : List Step) (d : ℕ). getD (execSteps ss tape l) d 0) (take-steps n plan A (suc s))
       (ap (λ (ws : List ℕ). fieldD (getD ws s 0)) (program-words n plan) ∙ field-at steps (plan-good n plan A) s (omega (arith, steps-length)))
 
-  tape-length : randsOf steps ≡ foretoldTape n plan
+  pub tape-length : randsOf steps ≡ foretoldTape n plan
   tape-length = plan-tape n (A .least) (A .most) plan (plan-words plan (A .good))
 
   -- a pairing of tapes of length L with equal words at the steps js

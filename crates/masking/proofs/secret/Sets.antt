@@ -36,6 +36,15 @@ pub has-right : (l r : List ℕ) (i : ℕ) → T (has r i) → T (has (l ++ r) i
 has-right [] r i h = h
 has-right (j ∷ l) r i h = or-right (eqb i j) (has (l ++ r) i) (has-right l r i h)
 
+-- a set of one number holds no other
+pub has-only : (l : List ℕ) (i : ℕ) → length l ≤ 1 → T (has l i) → (k : ℕ) → T (has l k) → k ≡ i
+has-only [] i le h k q = absurd h
+has-only (j ∷ []) i le h k q = is k q ∙ sym (is i h)
+  where
+    is : (x : ℕ) → T (has (j ∷ []) x) → x ≡ j
+    is x h = ⊎-elim (λ (e : x ≡ j). e) absurd (has-cases [] x j h)
+has-only (j ∷ j′ ∷ l) i le h k q = absurd (omega arith)
+
 -- ---- marks
 abbrev pub bit : Bool → ℕ
 bit true = 1

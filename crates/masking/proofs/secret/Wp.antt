@@ -1,6 +1,6 @@
 -- Two runs in step. `wp m P Ψ c c′` says that runs of P from c and c′ write equal words at the acts that m marks and end as Ψ says,
 -- where at each draw the two tape words differ by a number that both machines' cells decide. A proof of it is a pairing of tapes: the
--- maps there and back, that each undoes the other, lengths, bounds and the equal words. Blocks compose by `wp-append` and `wp-mono`.
+-- maps there and back, that each undoes the other, lengths, bounds, the equal words and the ends. Blocks compose by `wp-append` and `wp-mono`.
 use mathlib.Core.Path.{_≡_, refl, sym, ap, ap₂, _∙_}
 use mathlib.Core.Bool.{Bool}
 use mathlib.Core.List.{List, [], _∷_, _++_}
@@ -14,17 +14,13 @@ use Rattle.bits.proofs.Bound.{xor-lt}
 use Rattle.word.specs.declared.step.Step.{Step}
 use Rattle.masking.specs.Machine.{Words}
 use Rattle.masking.proofs.joined.Cells.{Cells, upd, upd-other, WordCells, upd-words}
-use Rattle.masking.proofs.secret.Acts.{Act, write, draw, act, acts, acts-append, draws, word, AllFit}
+use Rattle.masking.proofs.secret.Acts.{Act, write, draw, act, acts, acts-append, draws, word, after, AllFit}
 
 abbrev pub Marks : Type 0
 Marks = ℕ → Bool
 
 abbrev pub Rel : Type 1
 Rel = Cells → Cells → Type 0
-
--- nothing is asked of the ends
-abbrev pub Any : Rel
-Any c c′ = Unit {0}
 
 -- the marks after one act
 abbrev pub next : Marks → Marks
@@ -125,6 +121,15 @@ paired-words m (draw d ∷ P) Ψ c c′ w [] e j h = absurd (omega arith)
 paired-words m (draw d ∷ P) Ψ c c′ w (t ∷ ts) e zero h = rw (w .1 h, xor-zero)
 paired-words m (draw d ∷ P) Ψ c c′ w (t ∷ ts) e (suc j) h =
     paired-words (next m) P Ψ (upd c d t) (upd c′ d (xorW t (w .0))) (w .3 t) ts (omega arith) j h
+
+-- and end as Ψ says
+pub paired-ends : (m : Marks) (P : List Act) (Ψ : Rel) (c c′ : Cells) (w : wp m P Ψ c c′) (ts : List ℕ)
+    → draws P ≡ length ts → Ψ (after P c ts) (after P c′ (there m P Ψ c c′ w ts))
+unfolding there
+paired-ends m [] Ψ c c′ w ts e = w
+paired-ends m (write d f ∷ P) Ψ c c′ w ts e = paired-ends (next m) P Ψ (upd c d (f c)) (upd c′ d (f c′)) (w .1) ts e
+paired-ends m (draw d ∷ P) Ψ c c′ w [] e = absurd (omega arith)
+paired-ends m (draw d ∷ P) Ψ c c′ w (t ∷ ts) e = paired-ends (next m) P Ψ (upd c d t) (upd c′ d (xorW t (w .0))) (w .3 t) ts (omega arith)
 
 -- ---- the rules of `wp`
 
