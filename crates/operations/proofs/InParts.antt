@@ -60,29 +60,29 @@ module _ (n : ℕ) where
           let full : rowCount - suc q + suc q ≡ rowCount = omega arith in
           omega (arith, r .place, more q, most (suc q) (rowCount - suc q), ap (λ (m : ℕ). randsOf (steps (wordsOfRows m))) full)
 
-  -- the head, the rows and the tail in turn
-  module _ (tape cells : List ℕ) (e : Enough tape 0 (steps productPlan)) where
-    begun : Left tape (steps productPlan) 0 cells (steps headWords ++ (steps (wordsOfRows rowCount) ++ steps tailWords)) 0 cells
-    begun = renamed plan-steps (start tape (steps productPlan) 0 cells)
+  -- the head, the rows and the tail in turn, from place t of the tape on
+  module _ (tape cells : List ℕ) (t : ℕ) (e : Enough tape t (steps productPlan)) where
+    begun : Left tape (steps productPlan) t cells (steps headWords ++ (steps (wordsOfRows rowCount) ++ steps tailWords)) t cells
+    begun = renamed plan-steps (start tape (steps productPlan) t cells)
 
-    pub head-enough : Enough tape 0 (steps headWords)
+    pub head-enough : Enough tape t (steps headWords)
     head-enough = enough (steps headWords) (steps (wordsOfRows rowCount) ++ steps tailWords) begun e
 
-    module _ {cells₁ : List ℕ} {t₁ : ℕ} (first : Ran (steps headWords) tape 0 cells cells₁ t₁) where
-      after-head : Left tape (steps productPlan) 0 cells (steps (wordsOfRows rowCount) ++ steps tailWords) t₁ cells₁
+    module _ {cells₁ : List ℕ} {t₁ : ℕ} (first : Ran (steps headWords) tape t cells cells₁ t₁) where
+      after-head : Left tape (steps productPlan) t cells (steps (wordsOfRows rowCount) ++ steps tailWords) t₁ cells₁
       after-head = part (steps headWords) (steps (wordsOfRows rowCount) ++ steps tailWords) begun first
 
       pub rows-enough : Enough tape t₁ (steps (wordsOfRows rowCount))
       rows-enough = enough (steps (wordsOfRows rowCount)) (steps tailWords) after-head e
 
       module _ {cells₂ : List ℕ} {t₂ : ℕ} (rows : Ran (steps (wordsOfRows rowCount)) tape t₁ cells₁ cells₂ t₂) where
-        after-rows : Left tape (steps productPlan) 0 cells (steps tailWords) t₂ cells₂
+        after-rows : Left tape (steps productPlan) t cells (steps tailWords) t₂ cells₂
         after-rows = part (steps (wordsOfRows rowCount)) (steps tailWords) after-head rows
 
         pub tail-enough : Enough tape t₂ (steps tailWords)
         tail-enough = last-enough (steps tailWords) after-rows e
 
-        pub all-done : {cells₃ : List ℕ} {t₃ : ℕ} → Ran (steps tailWords) tape t₂ cells₂ cells₃ t₃ → Ran (steps productPlan) tape 0 cells cells₃ t₃
+        pub all-done : {cells₃ : List ℕ} {t₃ : ℕ} → Ran (steps tailWords) tape t₂ cells₂ cells₃ t₃ → Ran (steps productPlan) tape t cells cells₃ t₃
         all-done r = last (steps tailWords) after-rows r
 
 -- a part of the plan is accepted as a plan

@@ -32,15 +32,24 @@ fn rows(n: usize, tape: &[u64], start: usize, cells: &mut [u64]) -> usize
     t
 }
 
+// The plan's words in order, head, rows and tail in turn, from place `start` of the tape on; the answer is the next place.
+pub fn product_run(n: usize, tape: &[u64], start: usize, cells: &mut [u64]) -> usize
+    requires { ⌜ (2 ≤ n) × (n ≤ 8) × (length (now cells) ≡ 512) ⌝ }
+    requires { ⌜ Enough (now tape) start (stepsOf (program n productPlan)) ⌝ }
+    ensures { λ r. ⌜ Ran (stepsOf (program n productPlan)) (now (tape .entry)) start (now (cells .entry)) (now (cells .exit)) r ⌝ }
+{
+    let first = head();
+    let last = tail();
+    let t = run(&first, n, tape, start, cells);
+    let t = rows(n, tape, t, cells);
+    run(&last, n, tape, t, cells)
+}
+
 // Zeros with the operands placed, and the plan's words on them.
 pub(crate) fn finish(x: &[u64], y: &[u64], tape: &[u64], work: &mut [u64])
     requires { ⌜ Accepted (length (now x)) productPlan × (length (now y) ≤ 8) × (length (now work) ≡ 512) × (foretoldTape (length (now x)) productPlan ≤ length (now tape)) ⌝ }
     ensures { λ _. ⌜ now (work .exit) ≡ finished productPlan (length (now (x .entry))) (now (x .entry)) (now (y .entry)) (now (tape .entry)) ⌝ }
 {
-    let first = head();
-    let last = tail();
     begin(x, y, work);
-    let t = run(&first, x.len(), tape, 0, work);
-    let t = rows(x.len(), tape, t, work);
-    run(&last, x.len(), tape, t, work);
+    product_run(x.len(), tape, 0, work);
 }

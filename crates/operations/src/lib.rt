@@ -1,5 +1,6 @@
-// The operations on shares: one call over the words of each plan; the product's, which has rows, in parts. The contracts cite the
-// definitions of `execution`, and what holds of them in `specs/`.
+// The operations on shares: one call over the words of each plan; the product's, which has rows, in parts. The plans of product and sum
+// alone, on cells that the caller keeps, are `by_rows` and `by_table`. The contracts cite the definitions of `execution`, and what holds of
+// them in `specs/`.
 ghost use mathlib.Core.Path.{_≡_};
 ghost use Rattle.plans.specs.ProductPlan.{productPlan};
 ghost use Rattle.plans.specs.SumPlan.{sumPlan};
@@ -15,7 +16,8 @@ use execution::operation::end;
 use execution::operation::operation;
 use execution::operation::operation_answer;
 
-mod by_rows;
+pub mod by_rows;
+pub mod by_table;
 pub mod in_place;
 
 // The product of shared operands x and y: its shares in `result`. Turned down with 1 where the shares are not 2 to 8, 4 where a slice has the
