@@ -2,4 +2,4 @@
 pub mod in_place;
 pub mod one_operand;
 pub mod operation;
-mod work;
+pub mod work;

@@ -42,7 +42,7 @@ fn clear_by_parts(cells: &mut [u64])
 }
 
 // All cells, in two pieces that meet at `cut`, a place known only at run time: of a length that it knows the compiler makes one run.
-pub(crate) fn clear(cells: &mut [u64], cut: usize)
+pub fn clear(cells: &mut [u64], cut: usize)
     requires { ⌜ cut ≤ length (now cells) ⌝ }
     ensures { λ _. ⌜ now (cells .exit) ≡ replicate (length (now (cells .entry))) 0 ⌝ }
 {

@@ -1,0 +1,113 @@
+-- All that is proved of the complex product and of a layer (`transforms`), in terms of the lent words: what holds of any list of acts (Joined,
+-- Secret), at the slots that these calls start from (Starts), with their tape words (Tape). Rests on Answered for what a done call was given,
+-- and on Laid for reading results.
+use mathlib.Core.Path.{_≡_, sym, ap, ap₂, subst, _∙_}
+use mathlib.Core.List.{List, [], _∷_, _++_}
+use Prim.Native.Nat.{ℕ, _+_, _*_, _≤_, _<_}
+use native.Mathlib.Omega.{arith}
+use lib.ListN.{length}
+use borrow.Author.Tests.{eq-eqb}
+use Rattle.masking.specs.Translation.{program}
+use Rattle.masking.specs.Machine.{Words}
+use Rattle.binary64.specs.Operations.{Operation}
+use Rattle.plans.specs.BuiltIns.{planOf}
+use Rattle.splitting.specs.SplitJoin.{xorAll}
+use Rattle.complex.specs.Acts.{Act, Call, Slots, runPlain, tapeFor}
+use Rattle.complex.specs.Complex.{complexActs, complexRe, complexIm, slotRe}
+use Rattle.complex.specs.Layer.{layerActs}
+use Rattle.complex.specs.Layout.{numberOf, laidOut, joinedWords}
+use Rattle.complex.specs.Calls.{complexTape, complexStart, complexEnd, complexShares, layerTape, layerStart, layerEnd, layerShares, plainStart, layerWords}
+use Rattle.complex.specs.Secrecy.{PutsWords, CallHidden}
+use Rattle.complex.specs.Holds.{joinedSlots, ComplexSecret, ComplexHolds, LayerSecret, LayerHolds, Transforms}
+use Rattle.complex.proofs.Laid.{mapped-same, read-back}
+use Rattle.complex.proofs.Answered.{complex-ready, layer-ready}
+use Rattle.complex.proofs.Slots.{acts-shared}
+use Rattle.complex.proofs.Joined.{acts-join}
+use Rattle.complex.proofs.Secret.{acts-secret}
+use Rattle.complex.proofs.Tape.{four-two, complex-units, layer-calls, layer-units}
+use Rattle.complex.proofs.Starts.{complex-shared, complex-agree, layer-shared, layer-agree, layer-joined, layer-puts}
+
+-- ---- the complex product
+module _ (n : ℕ) (least : 2 ≤ n) (most : n ≤ 8) (x y tape : List ℕ) (wx : Words x) (wy : Words y) (wt : Words tape) (enough : complexTape n ≤ length tape) where
+  -- the result's numbers
+  abbrev parts : ℕ → List ℕ
+  parts j = complexEnd n x y tape .held (slotRe + j)
+
+  complex-joins : let a = xorAll (numberOf n 2 0 x) in let b = xorAll (numberOf n 2 1 x) in let c = xorAll (numberOf n 2 0 y) in let d = xorAll (numberOf n 2 1 y) in
+      joinedWords n 2 (complexShares n x y tape) ≡ complexRe a b c d ∷ complexIm a b c d ∷ []
+  unfolding complexShares
+  complex-joins =
+      let begun = complexStart n x y in
+      let all : tapeFor n complexActs ≤ length tape = omega (arith, four-two n) in
+      let S = complex-shared n x y wx wy in
+      let E = acts-shared n least most complexActs begun tape tt S wt all in
+      let joined = acts-join n least most complexActs tt begun S tape wt all in
+      let at : (j : ℕ) → j < 2 → xorAll (numberOf n 2 j (laidOut n 2 parts)) ≡ runPlain complexActs (joinedSlots begun) .held (slotRe + j) =
+      λ j lj. ap xorAll (read-back n 2 parts j lj (E .held (slotRe + j) .size)) ∙ ap (λ (s : Slots ℕ). s .held (slotRe + j)) joined in
+      ap₂ (λ (r i : ℕ). r ∷ i ∷ []) (at 0 (omega arith)) (at 1 (omega arith))
+
+complex-secret : (n : ℕ) → 2 ≤ n → n ≤ 8 → (before : List Act) (o : Operation) (k a b : ℕ) (after : List Act)
+    → complexActs ≡ before ++ (Call o k a b ∷ after) → (step : ℕ) → step < length (program n (planOf o)) → ComplexSecret n before o a b step
+complex-secret n least most before o k a b after e step inside =
+    let H = acts-secret n least most before o k a b after (subst PutsWords e tt) step inside in
+    record {
+      share = H .share;
+      below = H .below;
+      hidden = λ x y x′ y′ wx wy wx′ wy′ g.
+          subst (λ (acts : List Act). CallHidden n acts before o a b step (complexStart n x y) (complexStart n x′ y′)) (sym e)
+          (H .hidden (complexStart n x y) (complexStart n x′ y′) (complex-shared n x y wx wy) (complex-shared n x′ y′ wx′ wy′)
+          (complex-agree n x y (H .share) (H .below) x′ y′ g));
+    }
+
+complex-holds : ComplexHolds
+complex-holds =
+    record {
+      joins = λ n x y result work tape wx wy wt z.
+          let R = complex-ready n (length x) (length y) (length result) (length work) (length tape) z in
+          rw (eq-eqb _ 0 z) (complex-joins n (R .least) (R .most) x y tape wx wy wt (R .enough));
+      tape = λ n least most. (four-two n, complex-units n least most);
+      secret = complex-secret;
+    }
+
+-- ---- a layer
+module _ (n N h : ℕ) (least : 2 ≤ n) (most : n ≤ 8) (numbers factors tape : List ℕ) (wn : Words numbers) (wf : Words factors) (wt : Words tape)
+    (enough : layerTape n N ≤ length tape) where
+  layer-joins : joinedWords n (2 * N) (layerShares n N h numbers factors tape) ≡ layerWords N h (joinedWords n (2 * N) numbers) factors
+  unfolding layerShares layerWords
+  layer-joins =
+      let acts = layerActs N h factors in
+      let puts = layer-puts N h factors wf in
+      let begun = layerStart n N numbers in
+      let all : tapeFor n acts ≤ length tape = omega (arith, layer-calls n N h factors) in
+      let S = layer-shared n N numbers wn in
+      let E = acts-shared n least most acts begun tape puts S wt all in
+      let joined = acts-join n least most acts puts begun S tape wt all ∙ ap (runPlain acts) (layer-joined n N numbers) in
+      let lent = layerEnd n N h numbers factors tape .lent in
+      mapped-same (λ j. xorAll (numberOf n (2 * N) j (laidOut n (2 * N) lent))) (runPlain acts (plainStart (joinedWords n (2 * N) numbers)) .lent) (2 * N)
+      (λ j lj. ap xorAll (read-back n (2 * N) lent j lj (E .lent j .size)) ∙ ap (λ (s : Slots ℕ). s .lent j) joined)
+
+layer-secret : (n N h : ℕ) (factors : List ℕ) → 2 ≤ n → n ≤ 8 → Words factors → (before : List Act) (o : Operation) (k a b : ℕ) (after : List Act)
+    → layerActs N h factors ≡ before ++ (Call o k a b ∷ after) → (step : ℕ) → step < length (program n (planOf o)) → LayerSecret n N h factors before o a b step
+layer-secret n N h factors least most wf before o k a b after e step inside =
+    let H = acts-secret n least most before o k a b after (subst PutsWords e (layer-puts N h factors wf)) step inside in
+    record {
+      share = H .share;
+      below = H .below;
+      hidden = λ numbers numbers′ w w′ g.
+          subst (λ (acts : List Act). CallHidden n acts before o a b step (layerStart n N numbers) (layerStart n N numbers′)) (sym e)
+          (H .hidden (layerStart n N numbers) (layerStart n N numbers′) (layer-shared n N numbers w) (layer-shared n N numbers′ w′)
+          (layer-agree n N numbers (H .share) (H .below) numbers′ g));
+    }
+
+layer-holds : LayerHolds
+layer-holds =
+    record {
+      joins = λ n N h numbers factors work tape wn wf wt z.
+          let R = layer-ready n N h (length numbers) (length factors) (length work) (length tape) z in
+          rw (eq-eqb _ 0 z) (layer-joins n N h (R .least) (R .most) numbers factors tape wn wf wt (R .enough));
+      tape = λ n N h factors least most. (layer-calls n N h factors, layer-units n least most N);
+      secret = layer-secret;
+    }
+
+pub transforms : Transforms
+transforms = record { acts-join = acts-join; acts-secret = acts-secret; complex = complex-holds; layer = layer-holds }

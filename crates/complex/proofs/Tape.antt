@@ -1,0 +1,54 @@
+-- Tape words of the complex product and of a layer: those of their calls, and in units of n(n − 1) from the plans' own ANDs and ADDs.
+-- Rests on the plans' figures and on Laws (one list after another).
+use mathlib.Core.Path.{_≡_, sym, ap}
+use mathlib.Core.List.{List}
+use Prim.Native.Nat.{ℕ, zero, suc, _+_, _-_, _*_, _/_, _≤_}
+use native.Mathlib.Nat.{zero-mul, suc-mul}
+use native.Mathlib.Omega.{arith}
+use Rattle.masking.specs.Foretold.{foretoldTape}
+use Rattle.binary64.specs.Operations.{Product, Sum}
+use Rattle.plans.specs.ProductPlan.{productPlan}
+use Rattle.plans.specs.SumPlan.{sumPlan}
+use Rattle.plans.proofs.BuiltIns.{built-ins}
+use Rattle.complex.specs.Acts.{tapeFor}
+use Rattle.complex.specs.Complex.{complexActs}
+use Rattle.complex.specs.Layer.{pairOf, firstPairs, layerActs}
+use Rattle.complex.specs.Calls.{complexTape, layerTape}
+use Rattle.complex.proofs.Laws.{tape-append}
+
+-- of four products and two sums, and of four products and six
+pub four-two : (n : ℕ) → tapeFor n complexActs ≡ complexTape n
+four-two n = omega arith
+
+pair-tape : (n N h : ℕ) (factors : List ℕ) (k : ℕ) → tapeFor n (pairOf N h factors k) ≡ 4 * foretoldTape n productPlan + 6 * foretoldTape n sumPlan
+pair-tape n N h factors k = omega arith
+
+pairs-tape : (n N h : ℕ) (factors : List ℕ) (k : ℕ) → tapeFor n (firstPairs N h factors k) ≡ k * (4 * foretoldTape n productPlan + 6 * foretoldTape n sumPlan)
+pairs-tape n N h factors zero = sym (zero-mul (4 * foretoldTape n productPlan + 6 * foretoldTape n sumPlan))
+pairs-tape n N h factors (suc k) =
+    omega (
+      arith,
+      tape-append n (firstPairs N h factors k) (pairOf N h factors k),
+      pairs-tape n N h factors k,
+      pair-tape n N h factors k,
+      suc-mul k (4 * foretoldTape n productPlan + 6 * foretoldTape n sumPlan),
+    )
+
+pub layer-calls : (n N h : ℕ) (factors : List ℕ) → tapeFor n (layerActs N h factors) ≡ layerTape n N
+layer-calls n N h factors = pairs-tape n N h factors (N / 2)
+
+-- in units of n(n − 1): 89 for a product, 81 for a sum
+module _ (n : ℕ) (least : 2 ≤ n) (most : n ≤ 8) where
+  units : (P S q : ℕ) → P ≡ 89 * q → S ≡ 81 * q → (4 * P + 2 * S ≡ 518 * q) × (4 * P + 6 * S ≡ 842 * q)
+  units P S q e f = (omega arith, omega arith)
+
+  both : (complexTape n ≡ 518 * (n * (n - 1))) × (4 * foretoldTape n productPlan + 6 * foretoldTape n sumPlan ≡ 842 * (n * (n - 1)))
+  both =
+      units (foretoldTape n productPlan) (foretoldTape n sumPlan) (n * (n - 1)) (built-ins Product .figures .tape-is n least most)
+      (built-ins Sum .figures .tape-is n least most)
+
+  pub complex-units : complexTape n ≡ 518 * (n * (n - 1))
+  complex-units = both .0
+
+  pub layer-units : (N : ℕ) → layerTape n N ≡ N / 2 * (842 * (n * (n - 1)))
+  layer-units N = ap (λ (k : ℕ). N / 2 * k) (both .1)

@@ -1,0 +1,77 @@
+-- What is proved of the complex product and of a layer, document 02, No. 5: "Joined, product and layer equal the same steps on plain words."; the
+-- tape words from the plans' own counts; secrecy of each step of each call, in terms of the lent words.
+use mathlib.Core.Path.{_≡_}
+use mathlib.Core.List.{List, [], _∷_, _++_}
+use Prim.Native.Nat.{ℕ, _+_, _-_, _*_, _/_, _≤_, _<_}
+use lib.Dec.{T}
+use lib.ListN.{length, getD}
+use Rattle.masking.specs.Translation.{program}
+use Rattle.masking.specs.Machine.{Words}
+use Rattle.binary64.specs.Operations.{Operation}
+use Rattle.plans.specs.BuiltIns.{planOf}
+use Rattle.splitting.specs.SplitJoin.{xorAll}
+use Rattle.complex.specs.Acts.{Act, Call, Slots, runPlain, tapeFor, runShares}
+use Rattle.complex.specs.Complex.{complexActs, complexRe, complexIm}
+use Rattle.complex.specs.Layer.{isLayer, layerActs}
+use Rattle.complex.specs.Layout.{numberOf, joinedWords}
+use Rattle.complex.specs.Calls.{complexTape, complexStart, complexCallAnswer, complexResult, layerTape, layerStart, layerCallAnswer, layerNumbers, layerWords}
+use Rattle.complex.specs.Secrecy.{Shared, PutsWords, CallHidden, ActsSecret}
+
+-- ---- any list of acts
+
+abbrev pub joinedSlots : Slots (List ℕ) → Slots ℕ
+joinedSlots s = record { held = λ k. xorAll (s .held k); lent = λ j. xorAll (s .lent j) }
+
+abbrev pub ActsJoin : Type 0
+ActsJoin =
+    (n : ℕ) → 2 ≤ n → n ≤ 8 → (acts : List Act) → PutsWords acts → (s : Slots (List ℕ)) → Shared n s → (tape : List ℕ) → Words tape
+    → tapeFor n acts ≤ length tape → joinedSlots (runShares n acts tape s) ≡ runPlain acts (joinedSlots s)
+
+-- ---- the complex product
+
+-- two operands that agree in share i: both parts of each
+pub record OperandsAgree (n i : ℕ) (x y x′ y′ : List ℕ) : Type 0 where
+  pub first : (j : ℕ) → j < 2 → getD x (2 * i + j) 0 ≡ getD x′ (2 * i + j) 0
+  pub second : (j : ℕ) → j < 2 → getD y (2 * i + j) 0 ≡ getD y′ (2 * i + j) 0
+
+pub record ComplexSecret (n : ℕ) (before : List Act) (o : Operation) (a b step : ℕ) : Type 0 where
+  pub share : ℕ
+  pub below : share < n
+  pub hidden : (x y x′ y′ : List ℕ) → Words x → Words y → Words x′ → Words y′ → OperandsAgree n share x y x′ y′
+      → CallHidden n complexActs before o a b step (complexStart n x y) (complexStart n x′ y′)
+
+pub record ComplexHolds : Type 0 where
+  -- where the call is done, the result's words join to the product of what the operands' words join to
+  pub joins : (n : ℕ) (x y result work tape : List ℕ) → Words x → Words y → Words tape → complexCallAnswer n x y result work tape .number ≡ 0
+      → let a = xorAll (numberOf n 2 0 x) in let b = xorAll (numberOf n 2 1 x) in let c = xorAll (numberOf n 2 0 y) in let d = xorAll (numberOf n 2 1 y) in
+      joinedWords n 2 (complexResult n x y result work tape) ≡ complexRe a b c d ∷ complexIm a b c d ∷ []
+  -- its tape words are those of its calls; from the plans' own ANDs and ADDs
+  pub tape : (n : ℕ) → 2 ≤ n → n ≤ 8 → (tapeFor n complexActs ≡ complexTape n) × (complexTape n ≡ 518 * (n * (n - 1)))
+  pub secret : (n : ℕ) → 2 ≤ n → n ≤ 8 → (before : List Act) (o : Operation) (k a b : ℕ) (after : List Act)
+      → complexActs ≡ before ++ (Call o k a b ∷ after) → (step : ℕ) → step < length (program n (planOf o)) → ComplexSecret n before o a b step
+
+-- ---- a layer
+
+pub record LayerSecret (n N h : ℕ) (factors : List ℕ) (before : List Act) (o : Operation) (a b step : ℕ) : Type 0 where
+  pub share : ℕ
+  pub below : share < n
+  -- numbers that agree in that share: its 2N words
+  pub hidden : (numbers numbers′ : List ℕ) → Words numbers → Words numbers′
+      → ((j : ℕ) → j < 2 * N → getD numbers (2 * N * share + j) 0 ≡ getD numbers′ (2 * N * share + j) 0)
+      → CallHidden n (layerActs N h factors) before o a b step (layerStart n N numbers) (layerStart n N numbers′)
+
+pub record LayerHolds : Type 0 where
+  pub joins : (n N h : ℕ) (numbers factors work tape : List ℕ) → Words numbers → Words factors → Words tape
+      → layerCallAnswer n N h numbers factors work tape .number ≡ 0
+      → joinedWords n (2 * N) (layerNumbers n N h numbers factors work tape) ≡ layerWords N h (joinedWords n (2 * N) numbers) factors
+  pub tape : (n N h : ℕ) (factors : List ℕ) → 2 ≤ n → n ≤ 8
+      → (tapeFor n (layerActs N h factors) ≡ layerTape n N) × (layerTape n N ≡ N / 2 * (842 * (n * (n - 1))))
+  pub secret : (n N h : ℕ) (factors : List ℕ) → 2 ≤ n → n ≤ 8 → Words factors → (before : List Act) (o : Operation) (k a b : ℕ) (after : List Act)
+      → layerActs N h factors ≡ before ++ (Call o k a b ∷ after) → (step : ℕ) → step < length (program n (planOf o))
+      → LayerSecret n N h factors before o a b step
+
+pub record Transforms : Type 0 where
+  pub acts-join : ActsJoin
+  pub acts-secret : ActsSecret
+  pub complex : ComplexHolds
+  pub layer : LayerHolds

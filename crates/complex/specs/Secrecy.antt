@@ -1,0 +1,72 @@
+-- Secrecy of a list of acts on shares: for any step of any of its calls there is a share number such that for any two inputs that agree in that
+-- share of every number, tapes for the whole list pair off, and paired calculations write equal words at that step. Each call is a share run
+-- that demand 3 is about, from its operands placed, over its part of the tape; the calls before it run over the tape's words before that part.
+use mathlib.Core.Path.{_≡_}
+use mathlib.Core.List.{List, [], _∷_, _++_}
+use Prim.Native.Nat.{ℕ, suc, _^_, _≤_, _<_}
+use lib.ListN.{length, getD, take, drop}
+use Rattle.masking.specs.Translation.{program}
+use Rattle.masking.specs.Foretold.{foretoldTape}
+use Rattle.masking.specs.Secrecy.{Tape, Pairing, doneAfter, wordAfter}
+use Rattle.binary64.specs.Operations.{Operation}
+use Rattle.plans.specs.BuiltIns.{planOf}
+use Rattle.execution.specs.Shares.{placed}
+use Rattle.operations.specs.Masked.{Operand}
+use Rattle.complex.specs.Acts.{Act, Put, Flip, Load, Store, Call, Slots, tapeFor, runShares}
+
+-- every number has n shares
+pub record Shared (n : ℕ) (s : Slots (List ℕ)) : Type 0 where
+  pub held : (k : ℕ) → Operand n (s .held k)
+  pub lent : (j : ℕ) → Operand n (s .lent j)
+
+-- in share i every number is the same in both
+pub record AgreeIn (i : ℕ) (s s′ : Slots (List ℕ)) : Type 0 where
+  pub held : (k : ℕ) → getD (s .held k) i 0 ≡ getD (s′ .held k) i 0
+  pub lent : (j : ℕ) → getD (s .lent j) i 0 ≡ getD (s′ .lent j) i 0
+
+-- the plain words that acts put into slots are 64-bit words
+abbrev pub PutsWords : List Act → Type 0
+PutsWords [] = Unit
+PutsWords (Put k w ∷ cs) = (w < 2 ^ 64) × PutsWords cs
+PutsWords (Flip k ∷ cs) = PutsWords cs
+PutsWords (Load k j ∷ cs) = PutsWords cs
+PutsWords (Store j k ∷ cs) = PutsWords cs
+PutsWords (Call o k a b ∷ cs) = PutsWords cs
+
+-- A call of operation o on slots a and b that follows the acts `before`: the cells from which its share run starts, the tape words before its
+-- part, and its part.
+module _ (n : ℕ) (before : List Act) (o : Operation) (a b : ℕ) (s : Slots (List ℕ)) (tape : List ℕ) where
+  abbrev pub startOf : List ℕ
+  startOf = let t = runShares n before tape s in placed (t .held a) (t .held b)
+
+  abbrev pub wordsBefore : List ℕ
+  wordsBefore = take (tapeFor n before) tape
+
+  abbrev pub partOf : List ℕ
+  partOf = take (foretoldTape n (planOf o)) (drop (tapeFor n before) tape)
+
+  -- the words done by share runs of the call with these budgets, and what the cell of its step holds then
+  abbrev pub doneIn : List ℕ → ℕ
+  doneIn budgets = doneAfter n (planOf o) startOf wordsBefore partOf budgets
+
+  abbrev pub wordIn : ℕ → List ℕ → ℕ
+  wordIn step budgets = wordAfter n (planOf o) step startOf wordsBefore partOf budgets
+
+-- paired calculations write equal words at the call's step
+pub record CallHidden (n : ℕ) (acts before : List Act) (o : Operation) (a b step : ℕ) (s s′ : Slots (List ℕ)) : Type 0 where
+  pub pairing : Pairing (tapeFor n acts)
+  pub equal : (tape : List ℕ) → Tape (tapeFor n acts) tape → (budgets budgets′ : List ℕ)
+      → doneIn n before o a b s tape budgets ≡ suc step
+      → doneIn n before o a b s′ (pairing .there tape) budgets′ ≡ suc step
+      → wordIn n before o a b s tape step budgets ≡ wordIn n before o a b s′ (pairing .there tape) step budgets′
+
+pub record CallSecret (n : ℕ) (acts before : List Act) (o : Operation) (a b step : ℕ) : Type 0 where
+  pub share : ℕ
+  pub below : share < n
+  pub hidden : (s s′ : Slots (List ℕ)) → Shared n s → Shared n s′ → AgreeIn share s s′ → CallHidden n acts before o a b step s s′
+
+-- of any list of acts: for any step of any of its calls
+abbrev pub ActsSecret : Type 0
+ActsSecret =
+    (n : ℕ) → 2 ≤ n → n ≤ 8 → (before : List Act) (o : Operation) (k a b : ℕ) (after : List Act) → PutsWords (before ++ (Call o k a b ∷ after))
+    → (step : ℕ) → step < length (program n (planOf o)) → CallSecret n (before ++ (Call o k a b ∷ after)) before o a b step

@@ -1,0 +1,51 @@
+// The pairs of a layer on plain words, one after another in place.
+ghost use mathlib.Core.Path.{_≡_};
+ghost use mathlib.Core.Bool.{true};
+ghost use Prim.Native.Nat.{_+_, _*_, _<_};
+ghost use lib.ListN.{length};
+ghost use Rattle.complex.specs.Calls.{layerWords};
+ghost use Rattle.complex.specs.Inner.{PlainDone};
+ghost use Rattle.complex.specs.Layer.{blocks, isLayer, pairActs};
+use crate::difference;
+use crate::product;
+
+// The pair of u at place p with the factor re + im i.
+fn pair(count: usize, distance: usize, re: u64, im: u64, p: usize, numbers: &mut [u64])
+    requires { ⌜ (0 < distance) × (p + distance < count) × (length (now numbers) ≡ 2 * count) ⌝ }
+    ensures { λ _. ⌜ PlainDone (2 * count) (pairActs count distance re im p) (now (numbers .entry)) (now (numbers .exit)) ⌝ }
+{
+    let w = product(
+        re,
+        im,
+        numbers[p + distance],
+        numbers[count + (p + distance)],
+    );
+    let u_re = numbers[p];
+    let u_im = numbers[count + p];
+    numbers[p] = binary64::sum(u_re, w.re);
+    numbers[count + p] = binary64::sum(u_im, w.im);
+    numbers[p + distance] = difference(u_re, w.re);
+    numbers[count + (p + distance)] = difference(u_im, w.im);
+}
+
+// All pairs by rising place, each with its block's factor.
+pub(crate) fn all_pairs(count: usize, distance: usize, numbers: &mut [u64], factors: &[u64])
+    requires { ⌜ (isLayer count distance ≡ true) × (length (now numbers) ≡ 2 * count) × (length (now factors) ≡ 2 * blocks count distance) ⌝ }
+    ensures { λ _. ⌜ now (numbers .exit) ≡ layerWords count distance (now (numbers .entry)) (now (factors .entry)) ⌝ }
+{
+    let blocks = count / (2 * distance);
+    let mut k = 0;
+    while k < count / 2 {
+        let block = k / distance;
+        let p = 2 * distance * block + k % distance;
+        pair(
+            count,
+            distance,
+            factors[block],
+            factors[blocks + block],
+            p,
+            numbers,
+        );
+        k += 1;
+    }
+}
