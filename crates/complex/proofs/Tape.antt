@@ -20,10 +20,10 @@ use Rattle.complex.proofs.Laws.{tape-append}
 pub four-two : (n : ℕ) → tapeFor n complexActs ≡ complexTape n
 four-two n = omega arith
 
-pair-tape : (n N h : ℕ) (factors : List ℕ) (k : ℕ) → tapeFor n (pairOf N h factors k) ≡ 4 * foretoldTape n productPlan + 6 * foretoldTape n sumPlan
+pub pair-tape : (n N h : ℕ) (factors : List ℕ) (k : ℕ) → tapeFor n (pairOf N h factors k) ≡ 4 * foretoldTape n productPlan + 6 * foretoldTape n sumPlan
 pair-tape n N h factors k = omega arith
 
-pairs-tape : (n N h : ℕ) (factors : List ℕ) (k : ℕ) → tapeFor n (firstPairs N h factors k) ≡ k * (4 * foretoldTape n productPlan + 6 * foretoldTape n sumPlan)
+pub pairs-tape : (n N h : ℕ) (factors : List ℕ) (k : ℕ) → tapeFor n (firstPairs N h factors k) ≡ k * (4 * foretoldTape n productPlan + 6 * foretoldTape n sumPlan)
 pairs-tape n N h factors zero = sym (zero-mul (4 * foretoldTape n productPlan + 6 * foretoldTape n sumPlan))
 pairs-tape n N h factors (suc k) =
     omega (

@@ -1,6 +1,6 @@
 -- For a call over any plan: tape words (Tape), slices filled (Filling), a plan's words in order and the share run (Plans), answers (Answering),
 -- what a call leaves (Acting), a call with one operand (OneOperand), and a plan's run beside other cells (Beside).
-mod Tape
+pub mod Tape
 pub mod Filling
 pub mod Plans
 pub mod Answering

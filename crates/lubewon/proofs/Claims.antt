@@ -23,6 +23,7 @@ use Rattle.plans.proofs.BuiltIns as plans
 use Rattle.plans.proofs.product.Words as product
 use Rattle.operations.proofs.Masked as operations
 use Rattle.splitting.proofs.SplitJoin as splitting
+use Rattle.complex.proofs.Holds as complex-numbers
 use Rattle.listing.proofs.Whole as listing
 use Rattle.listing.proofs.Example as listed
 use Rattle.lubewon.specs.Claims.{Claims}
@@ -58,6 +59,7 @@ claims =
       product-by-rows = product.by-rows;
       masked = operations.masked;
       split-joins = splitting.split-joins;
+      transforms = complex-numbers.transforms;
       pieces-are-listing = listing.pieces-are-listing;
       example = listed.example;
       word-examples = plain-examples.word-examples;

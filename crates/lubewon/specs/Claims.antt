@@ -22,6 +22,7 @@ use Rattle.plans.specs.BuiltIns.{BuiltIns}
 use Rattle.plans.specs.ProductRows.{ByRows}
 use Rattle.operations.specs.Masked.{Masked}
 use Rattle.splitting.specs.SplitJoin.{SplitJoins}
+use Rattle.complex.specs.Holds.{Transforms}
 use Rattle.listing.specs.Sharelist.{ExampleListed}
 use Rattle.listing.specs.Pieces.{PiecesAreListing}
 use Rattle.lubewon.specs.TurnDowns.{TurnDowns}
@@ -60,6 +61,8 @@ pub record Claims : Type 0 where
   pub product-by-rows : ByRows
   pub masked : Masked
   pub split-joins : SplitJoins
+  -- complex product and layer on shares: joined results, tape words, and the secrecy of each step of each of their calls
+  pub transforms : Transforms
   -- the listing in the pieces that `list_piece` writes, and document 01's example of it
   pub pieces-are-listing : PiecesAreListing
   pub example : ExampleListed

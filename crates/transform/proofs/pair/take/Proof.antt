@@ -1,0 +1,37 @@
+-- `transform::pair::take` meets its contract.
+use mathlib.Core.Path.{refl}
+use mathlib.Core.List.{[], _∷_}
+use Prim.Native.Nat.{_*_}
+use native.Mathlib.Omega.{arith}
+use denote.Ref.{now}
+use borrow.Author.Needs.{needs}
+use Rattle.complex.specs.Acts.{Put}
+use Rattle.complex.specs.Complex.{slotA, slotB}
+use Rattle.transform.specs.Inner.{numbersLoaded}
+use Rattle.transform.proofs.OneByOne.{done-then, held-done}
+use Rattle.transform.proofs.pair.take.Statement.{statement}
+use Rattle.transform.proofs.pair.take.Tie as tie
+
+returns : tie.Need-returns
+returns c =
+    let g = c .before .before .before .before .before .before .before .before .before .before .before .before .before .before .args in
+    let n = g .n in
+    let S = 2 * g .count in
+    let l = now (g .numbers) in
+    let a = Put slotA (g .re) in
+    let b = Put slotB (g .im) in
+    done-then n 0 0 [] (a ∷ b ∷ []) (numbersLoaded (g .count) (g .distance) (g .p)) (omega arith)
+    (done-then n 0 0 [] (a ∷ []) (b ∷ []) (omega arith)
+    (held-done n S (a ∷ []) [] l (λ s. refl) (c .before .before .before .before .before .before .before .before .before .before .put .ensures))
+    (held-done n S (b ∷ []) [] l (λ s. refl) (c .before .before .before .before .before .before .put2 .ensures)))
+    (c .before .before .load .ensures)
+
+pub take-spec : {M : Type 1} → statement M
+take-spec =
+    tie.close
+    (tie.spec
+    (λ c κs. search needs)
+    (λ c κs. search needs)
+    (λ c κs. search needs)
+    (λ c. search needs)
+    returns)

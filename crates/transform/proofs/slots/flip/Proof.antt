@@ -1,0 +1,25 @@
+-- `transform::slots::flip` meets its contract.
+use native.Mathlib.Omega.{arith}
+use denote.Ref.{now}
+use borrow.Author.Needs.{needs}
+use Rattle.bits.specs.Ops.{xorW}
+use Rattle.transform.proofs.Held.{held-flipped}
+use Rattle.transform.proofs.slots.flip.Statement.{statement}
+use Rattle.transform.proofs.slots.flip.Tie as tie
+
+returns : tie.Need-returns
+unfolding xorW
+returns c s H = let b = c .before in held-flipped (b .args .n) (b .pre .1) (b .args .k) (b .pre .2) (now (b .args .work)) s H (b .pre .0)
+
+pub flip-spec : {M : Type 1} → statement M
+flip-spec =
+    tie.close
+    (tie.spec
+    (λ c. search needs)
+    (λ c. search needs)
+    (λ c. search needs)
+    (λ c. search needs)
+    (λ c. search needs)
+    (λ c. search needs)
+    (λ c. search needs)
+    returns)
