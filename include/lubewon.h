@@ -4,9 +4,11 @@
  * split into n shares, 2 to 8 words whose exclusive-or is the number, all but one of them random; which word is share i is its place in the
  * slice. Shares come from lubewon_split or from a call on shares; lubewon_join alone puts them together.
  *
- * ANSWERS. Every call answers every input. `number` is 0 for done, else the number of the turn-down, the first of these that applies:
+ * ANSWERS. Every call answers every input. `number` is 0 for done, else the number of the turn-down, the first of these, from the top, that
+ * applies (7 is newer than the others, and stands where it is looked at):
  *
  *   1  LUBEWON_SHARE_COUNT   share count not 2..8
+ *   7  LUBEWON_WRONG_SIZE    a layer's count or distance is not a power of two, its count not 2..1,024, or its distance not below the count
  *   2  LUBEWON_TOO_LONG      plan longer than 2,048 words, or share program longer than 8,257,536
  *   3  LUBEWON_BAD_WORD      a bad word; `place` is the first one's, from 0
  *   4  LUBEWON_WRONG_LENGTH  a slice of wrong length
@@ -54,8 +56,8 @@ extern "C" {
 #endif
 
 /* The number grows by one with every change of the calls. */
-#define LUBEWON_VERSION "0.12"
-#define LUBEWON_VERSION_NUMBER 12
+#define LUBEWON_VERSION "0.13"
+#define LUBEWON_VERSION_NUMBER 13
 
 /* Turn-downs. */
 enum {
@@ -65,7 +67,8 @@ enum {
     LUBEWON_BAD_WORD = 3,
     LUBEWON_WRONG_LENGTH = 4,
     LUBEWON_PAST_END = 5,
-    LUBEWON_TAPE_SHORT = 6
+    LUBEWON_TAPE_SHORT = 6,
+    LUBEWON_WRONG_SIZE = 7
 };
 
 /* Limits and sizes. */
@@ -76,6 +79,7 @@ enum {
 #define LUBEWON_WORK 512
 #define LUBEWON_PLAN_MAX 2048
 #define LUBEWON_PROGRAM_MAX 8257536
+#define LUBEWON_LAYER_MOST 1024
 
 /* The cell of share i of register r. */
 #define LUBEWON_CELL(i, r) (32 * (i) + (r))
@@ -91,6 +95,9 @@ enum {
 #define LUBEWON_FLOOR_TAPE(n) (12 * (n) * ((n) - 1))
 #define LUBEWON_TRUNCATE_TAPE(n) (5 * (n) * ((n) - 1))
 #define LUBEWON_NEAREST_TAPE(n) (14 * (n) * ((n) - 1))
+/* The complex product is four products and two sums; a layer over count numbers, for each of its count / 2 pairs, a complex product and four sums. */
+#define LUBEWON_COMPLEX_TAPE(n) (518 * (n) * ((n) - 1))
+#define LUBEWON_LAYER_TAPE(n, count) ((count) / 2 * 842 * (n) * ((n) - 1))
 /* Split: n - 1. */
 #define LUBEWON_SPLIT_TAPE(n) ((n) - 1)
 
@@ -105,6 +112,12 @@ typedef struct {
     lubewon_answer answer;
     uint64_t word;
 } lubewon_joined;
+
+/* A complex number on plain words: real and imaginary part. */
+typedef struct {
+    uint64_t re;
+    uint64_t im;
+} lubewon_complex;
 
 /* Share words and tape words of a plan for n shares. Turn-downs 1, 2, 3. */
 lubewon_answer lubewon_measure(size_t n, const uint32_t *plan, size_t plan_len);
@@ -162,6 +175,64 @@ lubewon_answer lubewon_floor_in_place(uint64_t *x, size_t x_len, uint64_t *work,
 lubewon_answer lubewon_truncate_in_place(uint64_t *x, size_t x_len, uint64_t *work, size_t work_len, const uint64_t *tape, size_t tape_len);
 lubewon_answer lubewon_nearest_in_place(uint64_t *x, size_t x_len, uint64_t *work, size_t work_len, const uint64_t *tape, size_t tape_len);
 
+/* The product of two complex numbers on n shares: x is a + bi, y is c + di. x, y and result have 2n words: share i of the real part is word 2i,
+ * of the imaginary part word 2i + 1. A plain operand goes in as share 0 of each part, with zeros beside it. work has 512 words; what it holds at the
+ * start does not matter, and it is zeros when the call is done. Turn-downs 1, 4, 6. tape counts LUBEWON_COMPLEX_TAPE(n) words. The result
+ * joins to what lubewon_complex_product gives for the joined operands. x, y and tape are only read, and x and y may be the same words; result and
+ * work must overlap neither them nor each other. A call that is interrupted and never resumed leaves shares in work, and result in no state that
+ * is promised: wipe both.
+ *
+ * The shares are those of the single calls one after another on the tape: the products ac, bd, ad and bc, then the sum of ac and -bd, the real
+ * part, and that of ad and bc; -bd is bd with the sign bit of share 0 flipped. Yet it is one call: that the word of a single step says no more than
+ * one share of each part of x and y does is proved of every step of the six, over the whole tape. */
+lubewon_answer lubewon_complex_product_shares(size_t n, const uint64_t *x, size_t x_len, const uint64_t *y, size_t y_len, uint64_t *result,
+                                              size_t result_len, uint64_t *work, size_t work_len, const uint64_t *tape, size_t tape_len);
+
+/* One layer of a Fourier transform on n shares, over `count` complex numbers, here N, at `distance`, here h. N is a power of two from 2 to
+ * LUBEWON_LAYER_MOST, h one from 1 to N/2. The numbers fall into N/(2h) blocks of 2h, and each block has one factor w. With u at place p in the
+ * first half of a block and v at p + h, u + w v is put at p and u - w v at p + h: numbers is changed in place.
+ *
+ *   numbers, 2Nn words. Real part j of share i is word 2Ni + j, its imaginary part N words later:
+ *
+ *       0             N             2N            3N            4N         2N(n-1)       2Nn-N         2Nn
+ *       +-------------+-------------+-------------+-------------+--- .. ---+-------------+-------------+
+ *       | re 0 .. N-1 | im 0 .. N-1 | re 0 .. N-1 | im 0 .. N-1 |          | re 0 .. N-1 | im 0 .. N-1 |
+ *       +-------------+-------------+-------------+-------------+--- .. ---+-------------+-------------+
+ *        `-------- share 0 --------' `-------- share 1 --------'            `------ share n - 1 ------'
+ *
+ *   factors, N/h plain words for B = N/(2h) blocks. Factor b is that of numbers 2hb to 2hb + 2h - 1:
+ *
+ *       0             B             2B         N = 8 and h = 2, so that B = 2:
+ *       +-------------+-------------+            factor 0, words 0 and 2, for numbers 0 and 2 as u and v, and for 1 and 3;
+ *       | re 0 .. B-1 | im 0 .. B-1 |            factor 1, words 1 and 3, for 4 and 6, and for 5 and 7
+ *       +-------------+-------------+
+ *
+ * work has 512 words; what it holds at the start does not matter, and it is zeros when the call is done. Turn-downs 1, 7, 4, 6, looked at in this
+ * order: 4 where numbers, factors or work has another length. tape counts LUBEWON_LAYER_TAPE(n, N) words. The numbers join to what lubewon_layer
+ * makes of the joined ones. factors and tape are only read; numbers and work must overlap neither them nor each other. A call that is interrupted
+ * and never resumed leaves shares in work, and numbers in no state that is promised, some pairs done and others not: wipe both.
+ *
+ * The shares are those of the calls one after another on the tape, pairs by rising p: the complex product of w, as a + bi and a plain operand, and
+ * v; then the sums of u and w v; then those of u and -w v, with the sign bit of share 0 flipped; each real part first. Yet it is one call, and what
+ * is proved of secrecy is proved of every step of all its pairs, over the whole tape.
+ *
+ * A transform is one call for each layer over the same numbers, h = N/2, N/4, .., 1, the tape of each behind that of the one before. A block of 2h is
+ * then a polynomial modulo some x^2h - w^2, and is parted into those modulo x^h - w and x^h + w. (By rising h, with one factor for a whole block, no
+ * factors make a Fourier transform from N = 4 on.) For FALCON share i of a polynomial's coefficient j, j from 0 to 2N - 1, is word 2Ni + j, and w^2
+ * is the imaginary unit at first; tests/c/fft.c has all factors.
+ *
+ *   for (size_t h = N / 2, at = 0; h >= 1; h /= 2) {
+ *       lubewon_answer a = lubewon_layer_shares(n, N, h, numbers, 2 * N * n, factors_for(h), N / h, work, LUBEWON_WORK, tape + at, tape_len - at);
+ *       if (a.number != LUBEWON_DONE) return a.number;
+ *       at += a.tape;
+ *   }
+ *
+ * A call's tape is lent as a whole: 215,552 words for N = 256 on two shares. Where that is too much, copy each pair, by rising p, to 4n words and
+ * back, and call the layer on it with N = 2, h = 1 and its factor: 1,684 words at a time on two shares. The shares are the same over the same tape
+ * words; what is proved of secrecy is then proved of each pair by itself. */
+lubewon_answer lubewon_layer_shares(size_t n, size_t count, size_t distance, uint64_t *numbers, size_t numbers_len, const uint64_t *factors,
+                                    size_t factors_len, uint64_t *work, size_t work_len, const uint64_t *tape, size_t tape_len);
+
 /* The operations on plain words; never turned down. E = 0 reads as a zero of the word's sign, whatever F; otherwise the number is
  * (2^52 + F) times 2^(E - 1075), E = 2047 included: there are no infinities, no NaN and no subnormal numbers. Product and sum: an exact result
  * that is not zero and below 2^-1022 in magnitude is a zero of its sign, before any rounding; else it is rounded to 53 bits, to the nearest,
@@ -179,6 +250,12 @@ uint64_t lubewon_sum(uint64_t a, uint64_t b);
 uint64_t lubewon_floor(uint64_t a);
 uint64_t lubewon_truncate(uint64_t a);
 uint64_t lubewon_nearest(uint64_t a);
+
+/* The complex product and the layer on plain words: the same products and sums in the same order. The product of a + bi and c + di is never
+ * turned down. The layer's numbers are 2N words, N real parts and then N imaginary ones, changed in place; factors as above. Turn-downs 7, 4, in this
+ * order. No counts. */
+lubewon_complex lubewon_complex_product(uint64_t a, uint64_t b, uint64_t c, uint64_t d);
+lubewon_answer lubewon_layer(size_t count, size_t distance, uint64_t *numbers, size_t numbers_len, const uint64_t *factors, size_t factors_len);
 
 /* The built-in plans, copied to the front of out: operands in registers 0 and 1, a single one in 0, result in 2. Turn-down 4 where out is too
  * short; out stays as it is past the plan's end. words counts the plan's words. */

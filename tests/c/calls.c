@@ -148,3 +148,65 @@ uint64_t try_plain(const operation *op, uint64_t a, uint64_t b) {
     CHECK(got == want, "%s of %016lX, %016lX is %016lX, reference %016lX", op->name, a, b, got, want);
     return got;
 }
+
+/* ---- Complex numbers ---- */
+
+static ref_plans plans(void) {
+    const operation *product = &operations[PRODUCT], *sum = &operations[SUM];
+    return (ref_plans){{product->plan, product->plan_len}, {sum->plan, sum->plan_len}};
+}
+
+lubewon_complex try_complex_product(uint64_t a, uint64_t b, uint64_t c, uint64_t d) {
+    lubewon_complex got = lubewon_complex_product(a, b, c, d);
+    ref_complex want = ref_complex_product(a, b, c, d);
+    CHECK(got.re == want.re && got.im == want.im,
+          "complex product of %016lX + %016lX i, %016lX + %016lX i is %016lX + %016lX i, reference %016lX + %016lX i", a, b, c, d, got.re,
+          got.im, want.re, want.im);
+    return got;
+}
+
+lubewon_answer try_layer(uint32_t number, size_t count, size_t distance, uint64_t *numbers, size_t numbers_len, const uint64_t *factors,
+                         size_t factors_len) {
+    lent z = lend64(numbers, numbers_len), f = lend64(factors, factors_len);
+    lubewon_answer got = lubewon_layer(count, distance, ours(z), numbers_len, ours(f), factors_len);
+    agree("layer", number, got, ref_layer(count, distance, theirs(z), numbers_len, theirs(f), factors_len));
+    take_back("layer", "numbers", z, numbers);
+    take_back("layer", "factors", f, NULL);
+    return got;
+}
+
+lubewon_answer try_complex_product_shares(uint32_t number, size_t n, const uint64_t *x, size_t x_len, const uint64_t *y, size_t y_len,
+                                          uint64_t *result, size_t result_len, uint64_t *work, size_t work_len, const uint64_t *tape,
+                                          size_t tape_len) {
+    static const char call[] = "complex product on shares";
+    lent lx = lend64(x, x_len), ly = lend64(y, y_len), r = lend64(result, result_len), w = lend64(work, work_len);
+    lent t = lend64(tape, tape_len);
+    lubewon_answer got =
+        lubewon_complex_product_shares(n, ours(lx), x_len, ours(ly), y_len, ours(r), result_len, ours(w), work_len, ours(t), tape_len);
+    agree(call, number, got,
+          ref_complex_product_shares(plans(), n, theirs(lx), x_len, theirs(ly), y_len, theirs(r), result_len, theirs(w), work_len, theirs(t),
+                                     tape_len));
+    take_back(call, "x", lx, NULL);
+    take_back(call, "y", ly, NULL);
+    take_back(call, "result", r, result);
+    take_back(call, "work", w, work);
+    take_back(call, "tape", t, NULL);
+    return got;
+}
+
+lubewon_answer try_layer_shares(uint32_t number, size_t n, size_t count, size_t distance, uint64_t *numbers, size_t numbers_len,
+                                const uint64_t *factors, size_t factors_len, uint64_t *work, size_t work_len, const uint64_t *tape,
+                                size_t tape_len) {
+    static const char call[] = "layer on shares";
+    lent z = lend64(numbers, numbers_len), f = lend64(factors, factors_len), w = lend64(work, work_len), t = lend64(tape, tape_len);
+    lubewon_answer got =
+        lubewon_layer_shares(n, count, distance, ours(z), numbers_len, ours(f), factors_len, ours(w), work_len, ours(t), tape_len);
+    agree(call, number, got,
+          ref_layer_shares(plans(), n, count, distance, theirs(z), numbers_len, theirs(f), factors_len, theirs(w), work_len, theirs(t),
+                           tape_len));
+    take_back(call, "numbers", z, numbers);
+    take_back(call, "factors", f, NULL);
+    take_back(call, "work", w, work);
+    take_back(call, "tape", t, NULL);
+    return got;
+}

@@ -9,6 +9,7 @@
 
 #include "lubewon.h"
 #include "reference.h"
+#include "reference_complex.h"
 
 enum { ANY = 99 };
 
@@ -49,5 +50,17 @@ lubewon_answer try_on_shares(uint32_t number, const operation *op, const uint64_
 lubewon_answer try_in_place(uint32_t number, const operation *op, uint64_t *x, size_t x_len, const uint64_t *y, size_t y_len, uint64_t *work,
                             size_t work_len, const uint64_t *tape, size_t tape_len);
 uint64_t try_plain(const operation *op, uint64_t a, uint64_t b);
+
+/* ---- Complex numbers; on shares the reference goes by the operations' plans ---- */
+
+lubewon_complex try_complex_product(uint64_t a, uint64_t b, uint64_t c, uint64_t d);
+lubewon_answer try_layer(uint32_t number, size_t count, size_t distance, uint64_t *numbers, size_t numbers_len, const uint64_t *factors,
+                         size_t factors_len);
+lubewon_answer try_complex_product_shares(uint32_t number, size_t n, const uint64_t *x, size_t x_len, const uint64_t *y, size_t y_len,
+                                          uint64_t *result, size_t result_len, uint64_t *work, size_t work_len, const uint64_t *tape,
+                                          size_t tape_len);
+lubewon_answer try_layer_shares(uint32_t number, size_t n, size_t count, size_t distance, uint64_t *numbers, size_t numbers_len,
+                                const uint64_t *factors, size_t factors_len, uint64_t *work, size_t work_len, const uint64_t *tape,
+                                size_t tape_len);
 
 #endif

@@ -1,4 +1,4 @@
-/* Checks and groups, random numbers, lent slices: see check.h. */
+/* Checks and groups, random numbers, words as doubles, lent slices: see check.h. */
 #include "check.h"
 
 #include <stdarg.h>
@@ -50,6 +50,20 @@ size_t below(size_t limit) {
 
 void fill(uint64_t *words, size_t len) {
     for (size_t i = 0; i < len; i++) words[i] = random_word();
+}
+
+/* ---- Words and native doubles ---- */
+
+double as_double(uint64_t bits) {
+    double number;
+    memcpy(&number, &bits, sizeof number);
+    return number;
+}
+
+uint64_t as_bits(double number) {
+    uint64_t bits;
+    memcpy(&bits, &number, sizeof bits);
+    return bits;
 }
 
 /* ---- Memory and lent slices ---- */

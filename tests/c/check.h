@@ -1,4 +1,5 @@
-/* What every part of the test stands on: checks counted by group, random numbers with a fixed seed, and slices lent with guards. */
+/* What every part of the test stands on: checks counted by group, random numbers with a fixed seed, words as native doubles, and slices lent with
+ * guards. */
 #ifndef CHECK_H
 #define CHECK_H
 
@@ -27,6 +28,11 @@ void end(const char *covers);
 uint64_t random_word(void);
 size_t below(size_t limit);
 void fill(uint64_t *words, size_t len);
+
+/* ---- Words and native doubles ---- */
+
+double as_double(uint64_t bits);
+uint64_t as_bits(double number);
 
 /* ---- Memory and lent slices ---- */
 

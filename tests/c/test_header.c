@@ -41,6 +41,35 @@ static void tape_words(const operation *op, size_t n, size_t words) {
     CHECK(answer.number == LUBEWON_TAPE_SHORT, "header: fewer tape words for %s in place, n = %zu", op->name, n);
 }
 
+/* A layer's most numbers, and that a complex number is its two words, the real part first. */
+static void layer_sizes(void) {
+    static uint64_t numbers[4 * LUBEWON_LAYER_MOST], factors[2 * LUBEWON_LAYER_MOST];
+    const size_t most = LUBEWON_LAYER_MOST;
+    CHECK(lubewon_layer(most, most / 2, numbers, 2 * most, factors, 2).number == LUBEWON_DONE, "header: most numbers of a layer");
+    CHECK(lubewon_layer(2 * most, most, numbers, 4 * most, factors, 2).number == LUBEWON_WRONG_SIZE, "header: too many numbers");
+    CHECK(lubewon_layer(most, most, numbers, 2 * most, factors, 0).number == LUBEWON_WRONG_SIZE, "header: too far");
+    CHECK(sizeof(lubewon_complex) == 16 && offsetof(lubewon_complex, re) == 0 && offsetof(lubewon_complex, im) == 8, "header: complex numbers");
+}
+
+/* The same of the complex product, and of a layer over eight numbers. */
+static void transform_tape_words(size_t n) {
+    static uint64_t tape[LUBEWON_LAYER_TAPE(LUBEWON_MOST_SHARES, 8)];
+    uint64_t x[2 * LUBEWON_MOST_SHARES] = {0}, result[2 * LUBEWON_MOST_SHARES] = {0}, work[LUBEWON_WORK];
+    uint64_t numbers[16 * LUBEWON_MOST_SHARES] = {0}, factors[2] = {0};
+    size_t words = LUBEWON_COMPLEX_TAPE(n);
+    lubewon_answer answer = lubewon_complex_product_shares(n, x, 2 * n, x, 2 * n, result, 2 * n, work, LUBEWON_WORK, tape, words);
+    CHECK(answer.number == LUBEWON_DONE && answer.tape == words, "header: tape words of the complex product, n = %zu", n);
+    answer = lubewon_complex_product_shares(n, x, 2 * n, x, 2 * n, result, 2 * n, work, LUBEWON_WORK, tape, words - 1);
+    CHECK(answer.number == LUBEWON_TAPE_SHORT, "header: fewer tape words for the complex product, n = %zu", n);
+    words = LUBEWON_LAYER_TAPE(n, 8);
+    answer = lubewon_layer_shares(n, 8, 4, numbers, 16 * n, factors, 2, work, LUBEWON_WORK, tape, words);
+    CHECK(answer.number == LUBEWON_DONE && answer.tape == words, "header: tape words of a layer, n = %zu", n);
+    answer = lubewon_layer_shares(n, 8, 4, numbers, 16 * n, factors, 2, work, LUBEWON_WORK, tape, words - 1);
+    CHECK(answer.number == LUBEWON_TAPE_SHORT, "header: fewer tape words for a layer, n = %zu", n);
+    CHECK(LUBEWON_COMPLEX_TAPE(n) == 4 * LUBEWON_PRODUCT_TAPE(n) + 2 * LUBEWON_SUM_TAPE(n), "header: calls of the complex product, n = %zu", n);
+    CHECK(LUBEWON_LAYER_TAPE(n, 8) == 4 * (LUBEWON_COMPLEX_TAPE(n) + 4 * LUBEWON_SUM_TAPE(n)), "header: calls of a layer, n = %zu", n);
+}
+
 static void splitting(size_t n) {
     uint64_t tape[LUBEWON_MOST_SHARES] = {0}, out[LUBEWON_MOST_SHARES];
     CHECK(lubewon_split(1, tape, LUBEWON_SPLIT_TAPE(n), out, n).number == LUBEWON_DONE, "header: split, n = %zu", n);
@@ -59,12 +88,14 @@ void test_header(void) {
     begin("header");
     limits();
     plan_words();
+    layer_sizes();
     for (size_t n = LUBEWON_LEAST_SHARES; n <= LUBEWON_MOST_SHARES; n++) {
         const size_t words[OPERATIONS] = {LUBEWON_PRODUCT_TAPE(n), LUBEWON_SUM_TAPE(n), LUBEWON_FLOOR_TAPE(n), LUBEWON_TRUNCATE_TAPE(n),
                                           LUBEWON_NEAREST_TAPE(n)};
         for (size_t i = 0; i < OPERATIONS; i++) tape_words(&operations[i], n, words[i]);
+        transform_tape_words(n);
         splitting(n);
         cells_of(n);
     }
-    end("limits, turn-downs, plan words, tape words and cells as the macros have them");
+    end("limits, turn-downs, plan words, tape words, a layer's sizes and cells as the macros have them");
 }

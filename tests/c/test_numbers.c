@@ -11,18 +11,6 @@
 
 /* ---- Plain operations, against the reference and native doubles ---- */
 
-static double as_double(uint64_t bits) {
-    double number;
-    memcpy(&number, &bits, sizeof number);
-    return number;
-}
-
-static uint64_t as_bits(double number) {
-    uint64_t bits;
-    memcpy(&bits, &number, sizeof bits);
-    return bits;
-}
-
 /* Operands that the documents and IEEE 754 read alike: normal numbers and true zeros. */
 static bool ordinary(uint64_t x) {
     uint64_t exponent = x >> 52 & 2047;

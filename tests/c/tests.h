@@ -27,6 +27,12 @@ void test_operations_on_shares(void);
 void test_operations_in_place(void);
 void test_accumulator(void);
 
+/* test_transform.c */
+void test_complex_product(void);
+void test_layer(void);
+void test_complex_product_on_shares(void);
+void test_layer_on_shares(void);
+
 /* test_header.c */
 void test_header(void);
 
