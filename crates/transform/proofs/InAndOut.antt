@@ -1,4 +1,4 @@
--- The complex product's operands taken from lent slices and its result put into one. Rests on Held, InRow and complex's Laid.
+-- The complex product's operands taken from lent slices and its result put into one. Rests on Holding, InRow and complex's Laid.
 use mathlib.Core.Path.{_≡_, refl, ap, _∙_}
 use mathlib.Core.List.{List}
 use Prim.Native.Nat.{ℕ, zero, suc, _+_, _*_, _≤_, _<_}
@@ -9,8 +9,9 @@ use Rattle.complex.specs.Complex.{slotA, slotB, slotC, slotD, slotRe, slotIm, c
 use Rattle.complex.specs.Layout.{numberOf}
 use Rattle.complex.specs.Calls.{complexStart, complexEnd, complexShares}
 use Rattle.complex.proofs.Laid.{number-size, laid-out-is}
-use Rattle.transform.specs.Inner.{slotAt, slotStep, heldOf, written, HeldIn, LentIn, HeldDone, PartsOut}
-use Rattle.transform.proofs.Held.{held-written, lent-written}
+use Rattle.slots.specs.Inner.{slotAt, slotStep, heldOf, written, HeldIn, LentIn, HeldDone}
+use Rattle.transform.specs.Inner.{PartsOut}
+use Rattle.slots.proofs.Holding.{held-written, lent-written}
 use Rattle.transform.proofs.InRow.{zeros-held}
 
 module _ (n : ℕ) (few : n ≤ 8) where

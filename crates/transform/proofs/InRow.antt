@@ -1,4 +1,4 @@
--- The pairs of a layer on shares: what the loop over them keeps. Rests on Held, and on complex's Laws, Tape and Laid.
+-- The pairs of a layer on shares: what the loop over them keeps. Rests on Holding, and on complex's Laws, Tape and Laid.
 use mathlib.Core.Path.{_≡_, refl, sym, ap, _∙_}
 use mathlib.Core.Bool.{cond}
 use mathlib.Core.List.{List, []}
@@ -19,7 +19,7 @@ use Rattle.complex.specs.Calls.{layerTape, layerStart, layerEnd, layerShares}
 use Rattle.complex.proofs.Laws.{tape-append, shares-append}
 use Rattle.complex.proofs.Tape.{pairs-tape, layer-calls}
 use Rattle.complex.proofs.Laid.{number-size, number-at, laid-out-is}
-use Rattle.transform.specs.Inner.{slotAt, slotStep, heldOf, HeldIn, LentIn, Done}
+use Rattle.slots.specs.Inner.{slotAt, slotStep, heldOf, HeldIn, LentIn, Done}
 
 -- zeros hold zeros
 pub zeros-held : (n k : ℕ) → n ≤ 8 → k < 16 → heldOf n k (replicate 512 0) ≡ replicate n 0

@@ -4,20 +4,21 @@ ghost use Prim.Native.Nat.{_+_, _≤_};
 ghost use lib.ListN.{drop, length};
 ghost use Rattle.complex.specs.Acts.{tapeFor};
 ghost use Rattle.complex.specs.Complex.{complexActs};
-ghost use Rattle.transform.specs.Inner.{HeldDone, fourProducts, twoSums};
-use crate::calls::add;
-use crate::calls::multiply;
-use crate::slots::A;
-use crate::slots::AC;
-use crate::slots::AD;
-use crate::slots::B;
-use crate::slots::BC;
-use crate::slots::BD;
-use crate::slots::C;
-use crate::slots::D;
-use crate::slots::IM;
-use crate::slots::RE;
-use crate::slots::flip;
+ghost use Rattle.slots.specs.Inner.{HeldDone};
+ghost use Rattle.transform.specs.Inner.{fourProducts, twoSums};
+use slots::calls::add;
+use slots::calls::multiply;
+use slots::held::A;
+use slots::held::AC;
+use slots::held::AD;
+use slots::held::B;
+use slots::held::BC;
+use slots::held::BD;
+use slots::held::C;
+use slots::held::D;
+use slots::held::IM;
+use slots::held::RE;
+use slots::held::flip;
 
 // Products ac, bd, ad, bc in this order, over the tape from `start` on; the answer is the next place.
 fn four_products(n: usize, tape: &[u64], start: usize, work: &mut [u64]) -> usize

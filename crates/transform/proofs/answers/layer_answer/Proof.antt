@@ -10,7 +10,7 @@ use Rattle.execution.proofs.Tape.{pairs-most}
 use Rattle.complex.specs.Calls.{layerAnswer}
 use Rattle.complex.proofs.Powers.{sizes}
 use Rattle.complex.proofs.Tape.{layer-units}
-use Rattle.transform.proofs.Held.{numbers-most}
+use Rattle.slots.proofs.Holding.{numbers-most}
 use Rattle.transform.proofs.answers.layer_answer.Statement.{statement}
 use Rattle.transform.proofs.answers.layer_answer.Tie as tie
 

@@ -7,8 +7,8 @@ use borrow.Author.Needs.{needs}
 use Rattle.complex.specs.Acts.{Load}
 use Rattle.complex.specs.Complex.{slotC, slotD}
 use Rattle.complex.specs.Layer.{slotURe, slotUIm}
-use Rattle.transform.proofs.Held.{row-inside, numbers-most}
-use Rattle.transform.proofs.OneByOne.{done-then, loaded}
+use Rattle.slots.proofs.Holding.{row-inside, numbers-most}
+use Rattle.slots.proofs.OneByOne.{done-then, loaded}
 use Rattle.transform.proofs.pair.load.Statement.{statement}
 use Rattle.transform.proofs.pair.load.Tie as tie
 

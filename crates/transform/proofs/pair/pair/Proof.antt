@@ -8,7 +8,7 @@ use lib.ListN.{drop}
 use borrow.Author.Needs.{needs}
 use Rattle.complex.specs.Complex.{complexActs}
 use Rattle.complex.specs.Layer.{taken, plusMinus, putBack}
-use Rattle.transform.proofs.OneByOne.{done-then, held-done}
+use Rattle.slots.proofs.OneByOne.{done-then, held-done}
 use Rattle.transform.proofs.pair.pair.Statement.{statement}
 use Rattle.transform.proofs.pair.pair.Tie as tie
 

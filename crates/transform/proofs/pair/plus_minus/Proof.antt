@@ -7,7 +7,7 @@ use Rattle.binary64.specs.Operations.{Sum}
 use Rattle.complex.specs.Acts.{Act, Flip, Call}
 use Rattle.complex.specs.Complex.{slotRe, slotIm}
 use Rattle.complex.specs.Layer.{slotURe, slotUIm, slotPlusRe, slotPlusIm, slotMinusRe, slotMinusIm}
-use Rattle.transform.proofs.OneByOne.{held-then}
+use Rattle.slots.proofs.OneByOne.{held-then}
 use Rattle.transform.proofs.pair.plus_minus.Statement.{statement}
 use Rattle.transform.proofs.pair.plus_minus.Tie as tie
 

@@ -7,8 +7,8 @@ use denote.Ref.{now}
 use borrow.Author.Needs.{needs}
 use Rattle.complex.specs.Acts.{Store}
 use Rattle.complex.specs.Layer.{slotPlusRe, slotPlusIm, slotMinusRe, slotMinusIm}
-use Rattle.transform.proofs.Held.{row-inside, numbers-most}
-use Rattle.transform.proofs.OneByOne.{done-then, stored}
+use Rattle.slots.proofs.Holding.{row-inside, numbers-most}
+use Rattle.slots.proofs.OneByOne.{done-then, stored}
 use Rattle.transform.proofs.pair.put_back.Statement.{statement}
 use Rattle.transform.proofs.pair.put_back.Tie as tie
 

@@ -8,7 +8,7 @@ use borrow.Author.Needs.{needs}
 use Rattle.complex.specs.Acts.{Put}
 use Rattle.complex.specs.Complex.{slotA, slotB}
 use Rattle.transform.specs.Inner.{numbersLoaded}
-use Rattle.transform.proofs.OneByOne.{done-then, held-done}
+use Rattle.slots.proofs.OneByOne.{done-then, held-done}
 use Rattle.transform.proofs.pair.take.Statement.{statement}
 use Rattle.transform.proofs.pair.take.Tie as tie
 

@@ -6,7 +6,7 @@ use borrow.Author.Needs.{needs}
 use Rattle.binary64.specs.Operations.{Product}
 use Rattle.complex.specs.Acts.{Call}
 use Rattle.complex.specs.Complex.{slotA, slotB, slotC, slotD, slotAC, slotBD, slotAD, slotBC}
-use Rattle.transform.proofs.OneByOne.{held-then}
+use Rattle.slots.proofs.OneByOne.{held-then}
 use Rattle.transform.proofs.product.four_products.Statement.{statement}
 use Rattle.transform.proofs.product.four_products.Tie as tie
 

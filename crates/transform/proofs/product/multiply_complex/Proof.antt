@@ -4,7 +4,7 @@ use native.Mathlib.Omega.{arith}
 use denote.Ref.{now}
 use borrow.Author.Needs.{needs}
 use Rattle.transform.specs.Inner.{fourProducts, twoSums}
-use Rattle.transform.proofs.OneByOne.{held-then}
+use Rattle.slots.proofs.OneByOne.{held-then}
 use Rattle.transform.proofs.product.multiply_complex.Statement.{statement}
 use Rattle.transform.proofs.product.multiply_complex.Tie as tie
 

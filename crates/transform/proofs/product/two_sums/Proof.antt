@@ -6,7 +6,7 @@ use borrow.Author.Needs.{needs}
 use Rattle.binary64.specs.Operations.{Sum}
 use Rattle.complex.specs.Acts.{Flip, Call}
 use Rattle.complex.specs.Complex.{slotAC, slotBD, slotAD, slotBC, slotRe, slotIm}
-use Rattle.transform.proofs.OneByOne.{held-then}
+use Rattle.slots.proofs.OneByOne.{held-then}
 use Rattle.transform.proofs.product.two_sums.Statement.{statement}
 use Rattle.transform.proofs.product.two_sums.Tie as tie
 

@@ -1,4 +1,4 @@
--- `transform::calls::add` meets its contract.
+-- `slots::calls::add` meets its contract.
 use native.Mathlib.Omega.{arith}
 use denote.Ref.{now}
 use borrow.Author.Needs.{needs}
@@ -7,9 +7,9 @@ use Rattle.plans.specs.BuiltIns.{planOf}
 use Rattle.plans.proofs.BuiltIns.{built-ins}
 use Rattle.operations.proofs.Joined.{accepted}
 use Rattle.execution.proofs.Beside.{enough-from}
-use Rattle.transform.proofs.Operands.{call-done}
-use Rattle.transform.proofs.calls.add.Statement.{statement}
-use Rattle.transform.proofs.calls.add.Tie as tie
+use Rattle.slots.proofs.Operands.{call-done}
+use Rattle.slots.proofs.calls.add.Statement.{statement}
+use Rattle.slots.proofs.calls.add.Tie as tie
 
 sum-run-requires : tie.Need-sum-run-requires
 sum-run-requires c κs =

@@ -1,9 +1,9 @@
--- `transform::slots::operands` meets its contract.
+-- `slots::held::operands` meets its contract.
 use denote.Ref.{now}
 use borrow.Author.Needs.{needs}
-use Rattle.transform.proofs.Operands.{operands-are}
-use Rattle.transform.proofs.slots.operands.Statement.{statement}
-use Rattle.transform.proofs.slots.operands.Tie as tie
+use Rattle.slots.proofs.Operands.{operands-are}
+use Rattle.slots.proofs.held.operands.Statement.{statement}
+use Rattle.slots.proofs.held.operands.Tie as tie
 
 returns : tie.Need-returns
 returns c =

@@ -6,7 +6,7 @@ ghost use lib.ListN.{drop, length, replicate};
 ghost use Rattle.execution.specs.Inner.{machineCells};
 ghost use Rattle.execution.specs.Shares.{placedIn};
 ghost use Rattle.complex.specs.Acts.{Flip, Put};
-ghost use Rattle.transform.specs.Inner.{HeldDone, heldOf};
+ghost use Rattle.slots.specs.Inner.{HeldDone, heldOf};
 use crate::copies::copy;
 use crate::copies::copy_within;
 use complex::SIGN;
@@ -14,47 +14,47 @@ use execution::work::clear;
 use word::step_word::StepWord;
 
 // The first cell that share programs do not use.
-pub(crate) const HELD: usize = 352;
+pub const HELD: usize = 352;
 
 // Slots; the shares of a slot's number lie so far apart.
-pub(crate) const SLOTS: usize = 16;
+pub const SLOTS: usize = 16;
 
 // The slots of the complex product: operands a + bi and c + di, the four products, and the result.
-pub(crate) const A: usize = 0;
+pub const A: usize = 0;
 
-pub(crate) const B: usize = 1;
+pub const B: usize = 1;
 
-pub(crate) const C: usize = 2;
+pub const C: usize = 2;
 
-pub(crate) const D: usize = 3;
+pub const D: usize = 3;
 
-pub(crate) const AC: usize = 4;
+pub const AC: usize = 4;
 
-pub(crate) const BD: usize = 5;
+pub const BD: usize = 5;
 
-pub(crate) const AD: usize = 6;
+pub const AD: usize = 6;
 
-pub(crate) const BC: usize = 7;
+pub const BC: usize = 7;
 
-pub(crate) const RE: usize = 8;
+pub const RE: usize = 8;
 
-pub(crate) const IM: usize = 9;
+pub const IM: usize = 9;
 
 // Of a layer: u, u plus and u minus.
-pub(crate) const U_RE: usize = 10;
+pub const U_RE: usize = 10;
 
-pub(crate) const U_IM: usize = 11;
+pub const U_IM: usize = 11;
 
-pub(crate) const PLUS_RE: usize = 12;
+pub const PLUS_RE: usize = 12;
 
-pub(crate) const PLUS_IM: usize = 13;
+pub const PLUS_IM: usize = 13;
 
-pub(crate) const MINUS_RE: usize = 14;
+pub const MINUS_RE: usize = 14;
 
-pub(crate) const MINUS_IM: usize = 15;
+pub const MINUS_IM: usize = 15;
 
 // A plain word into slot k: share 0, with zeros beside it.
-pub(crate) fn put(n: usize, k: usize, word: u64, work: &mut [u64])
+pub fn put(n: usize, k: usize, word: u64, work: &mut [u64])
     requires { ⌜ (2 ≤ n) × (n ≤ 8) × (k < 16) × (length (now work) ≡ 512) ⌝ }
     ensures { λ _. ⌜ HeldDone n (Put k word ∷ []) [] (now (work .entry)) (now (work .exit)) ⌝ }
 {
@@ -64,7 +64,7 @@ pub(crate) fn put(n: usize, k: usize, word: u64, work: &mut [u64])
 }
 
 // The sign bit of slot k's number, in share 0 alone.
-pub(crate) fn flip(n: usize, k: usize, work: &mut [u64])
+pub fn flip(n: usize, k: usize, work: &mut [u64])
     requires { ⌜ (2 ≤ n) × (n ≤ 8) × (k < 16) × (length (now work) ≡ 512) ⌝ }
     ensures { λ _. ⌜ HeldDone n (Flip k ∷ []) [] (now (work .entry)) (now (work .exit)) ⌝ }
 {
@@ -72,7 +72,7 @@ pub(crate) fn flip(n: usize, k: usize, work: &mut [u64])
 }
 
 // Zeros in the cells of share programs, with the numbers of slots a and b in registers 0 and 1.
-pub(crate) fn operands(n: usize, a: usize, b: usize, work: &mut [u64])
+pub fn operands(n: usize, a: usize, b: usize, work: &mut [u64])
     requires { ⌜ (2 ≤ n) × (n ≤ 8) × (a < 16) × (b < 16) × (length (now work) ≡ 512) ⌝ }
     ensures { λ _. ⌜ now (work .exit) ≡ placedIn 1 0 (heldOf n b (now (work .entry))) (placedIn 0 0 (heldOf n a (now (work .entry))) (replicate machineCells 0 ++ drop machineCells (now (work .entry)))) ⌝ }
 {

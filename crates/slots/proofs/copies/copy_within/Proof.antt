@@ -1,12 +1,12 @@
--- `transform::copies::copy_within` meets its contract.
+-- `slots::copies::copy_within` meets its contract.
 use mathlib.Core.Path.{refl, sym, _∙_}
 use Prim.Native.Nat.{_+_, _-_, _*_}
 use native.Mathlib.Omega.{arith}
 use denote.Ref.{now}
 use lib.ListN.{getD}
-use Rattle.transform.proofs.Written.{Copied, none-copied, one-copied, all-copied, Unread, still-unread}
-use Rattle.transform.proofs.copies.copy_within.Statement.{statement}
-use Rattle.transform.proofs.copies.copy_within.Tie as tie
+use Rattle.slots.proofs.Written.{Copied, none-copied, one-copied, all-copied, Unread, still-unread}
+use Rattle.slots.proofs.copies.copy_within.Statement.{statement}
+use Rattle.slots.proofs.copies.copy_within.Tie as tie
 
 abbrev Inv-loop : tie.InvT-loop
 Inv-loop n at step place stride cells₀ i₀ cells i = Copied n step at stride place cells₀ cells₀ i cells × Unread n step at cells₀ cells

@@ -1,11 +1,11 @@
--- `transform::copies::copy` meets its contract.
+-- `slots::copies::copy` meets its contract.
 use mathlib.Core.Path.{refl, sym, _∙_}
 use Prim.Native.Nat.{_-_}
 use native.Mathlib.Omega.{arith}
 use denote.Ref.{now}
-use Rattle.transform.proofs.Written.{Copied, none-copied, one-copied, all-copied}
-use Rattle.transform.proofs.copies.copy.Statement.{statement}
-use Rattle.transform.proofs.copies.copy.Tie as tie
+use Rattle.slots.proofs.Written.{Copied, none-copied, one-copied, all-copied}
+use Rattle.slots.proofs.copies.copy.Statement.{statement}
+use Rattle.slots.proofs.copies.copy.Tie as tie
 
 abbrev Inv-loop : tie.InvT-loop
 Inv-loop n from at step to₀ place stride i₀ to i = Copied n step at stride place from to₀ i to

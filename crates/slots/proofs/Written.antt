@@ -9,7 +9,7 @@ use lib.ListN.{length, getD, set, drop, length-set, drop-of-length-le}
 use lib.Seq.{drop-cons, getD-set-same, getD-set-other}
 use Rattle.complex.specs.Layout.{numberOf}
 use Rattle.complex.proofs.Laid.{number-size, number-at}
-use Rattle.transform.specs.Inner.{written, Apart}
+use Rattle.slots.specs.Inner.{written, Apart}
 
 pub written-size : (step at i : ℕ) (xs l : List ℕ) → length (written step at i xs l) ≡ length l
 written-size step at i [] l = refl

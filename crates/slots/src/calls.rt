@@ -8,17 +8,17 @@ ghost use Rattle.binary64.specs.Operations.{Product, Sum};
 ghost use Rattle.plans.specs.ProductPlan.{productPlan};
 ghost use Rattle.plans.specs.SumPlan.{sumPlan};
 ghost use Rattle.complex.specs.Acts.{Call};
-ghost use Rattle.transform.specs.Inner.{HeldDone};
+ghost use Rattle.slots.specs.Inner.{HeldDone};
 use crate::copies::copy_within;
-use crate::slots::HELD;
-use crate::slots::SLOTS;
-use crate::slots::operands;
+use crate::held::HELD;
+use crate::held::SLOTS;
+use crate::held::operands;
 use operations::by_rows::product_run;
 use operations::by_table::sum_run;
 use word::step_word::StepWord;
 
 // The product of the numbers in slots a and b into slot k, over the tape from `start` on; the answer is the next place.
-pub(crate) fn multiply(
+pub fn multiply(
     n: usize,
     k: usize,
     a: usize,
@@ -37,7 +37,7 @@ pub(crate) fn multiply(
 }
 
 // Their sum, likewise.
-pub(crate) fn add(
+pub fn add(
     n: usize,
     k: usize,
     a: usize,

@@ -1,11 +1,11 @@
--- `transform::slots::flip` meets its contract.
+-- `slots::held::flip` meets its contract.
 use native.Mathlib.Omega.{arith}
 use denote.Ref.{now}
 use borrow.Author.Needs.{needs}
 use Rattle.bits.specs.Ops.{xorW}
-use Rattle.transform.proofs.Held.{held-flipped}
-use Rattle.transform.proofs.slots.flip.Statement.{statement}
-use Rattle.transform.proofs.slots.flip.Tie as tie
+use Rattle.slots.proofs.Holding.{held-flipped}
+use Rattle.slots.proofs.held.flip.Statement.{statement}
+use Rattle.slots.proofs.held.flip.Tie as tie
 
 returns : tie.Need-returns
 unfolding xorW

@@ -3,10 +3,10 @@ ghost use mathlib.Core.Path.{_≡_};
 ghost use Prim.Native.Nat.{_≤_};
 ghost use lib.ListN.{length};
 ghost use Rattle.complex.specs.Layout.{numberOf};
-ghost use Rattle.transform.specs.Inner.{Apart, Inside, written};
+ghost use Rattle.slots.specs.Inner.{Apart, Inside, written};
 
 // From one slice to another.
-pub(crate) fn copy(
+pub fn copy(
     n: usize,
     from: &[u64],
     at: usize,
@@ -26,14 +26,7 @@ pub(crate) fn copy(
 }
 
 // Within one slice, to places that are not read.
-pub(crate) fn copy_within(
-    n: usize,
-    at: usize,
-    step: usize,
-    place: usize,
-    stride: usize,
-    cells: &mut [u64],
-)
+pub fn copy_within(n: usize, at: usize, step: usize, place: usize, stride: usize, cells: &mut [u64])
     requires { ⌜ Inside n step at (length (now cells)) × Inside n stride place (length (now cells)) × Apart n step at stride place × (length (now cells) ≤ 65536) ⌝ }
     ensures { λ _. ⌜ now (cells .exit) ≡ written stride place 0 (numberOf n step at (now (cells .entry))) (now (cells .entry)) ⌝ }
 {

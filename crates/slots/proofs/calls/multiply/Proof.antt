@@ -1,4 +1,4 @@
--- `transform::calls::multiply` meets its contract.
+-- `slots::calls::multiply` meets its contract.
 use native.Mathlib.Omega.{arith}
 use denote.Ref.{now}
 use borrow.Author.Needs.{needs}
@@ -7,9 +7,9 @@ use Rattle.plans.specs.BuiltIns.{planOf}
 use Rattle.plans.proofs.BuiltIns.{built-ins}
 use Rattle.operations.proofs.Joined.{accepted}
 use Rattle.execution.proofs.Beside.{enough-from}
-use Rattle.transform.proofs.Operands.{call-done}
-use Rattle.transform.proofs.calls.multiply.Statement.{statement}
-use Rattle.transform.proofs.calls.multiply.Tie as tie
+use Rattle.slots.proofs.Operands.{call-done}
+use Rattle.slots.proofs.calls.multiply.Statement.{statement}
+use Rattle.slots.proofs.calls.multiply.Tie as tie
 
 product-run-requires : tie.Need-product-run-requires
 product-run-requires c κs =

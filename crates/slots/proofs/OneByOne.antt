@@ -1,4 +1,4 @@
--- Acts one after another over a tape, from what each makes of the work slice and of the lent words. Rests on Held and complex's Laws.
+-- Acts one after another over a tape, from what each makes of the work slice and of the lent words. Rests on Holding and complex's Laws.
 use mathlib.Core.Path.{_≡_, sym, ap, _∙_}
 use mathlib.Core.List.{List, [], _∷_, _++_}
 use Prim.Native.Nat.{ℕ, _+_, _≤_, _<_}
@@ -8,8 +8,8 @@ use Rattle.complex.specs.Acts.{Act, Load, Store, Slots, tapeFor, runShares}
 use Rattle.complex.specs.Layout.{numberOf}
 use Rattle.complex.proofs.Laws.{shares-append}
 use Rattle.complex.proofs.Laid.{number-size}
-use Rattle.transform.specs.Inner.{slotAt, slotStep, heldOf, written, HeldIn, LentIn, HeldDone, Done}
-use Rattle.transform.proofs.Held.{held-written, lent-written}
+use Rattle.slots.specs.Inner.{slotAt, slotStep, heldOf, written, HeldIn, LentIn, HeldDone, Done}
+use Rattle.slots.proofs.Holding.{held-written, lent-written}
 
 -- acts from place t of the tape on, and acts from the place where they end
 module _ (n t t′ : ℕ) (tape : List ℕ) (cs ds : List Act) (e : t′ ≡ t + tapeFor n cs) where

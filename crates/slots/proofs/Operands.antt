@@ -1,5 +1,5 @@
 -- A call's operands placed from slots, and its result kept in one: what `operands`, the run of a plan and the copy of register 2 make of the
--- slots. Rests on Held and on execution's Beside.
+-- slots. Rests on Holding and on execution's Beside.
 use mathlib.Core.Path.{_≡_, refl, sym, ap, ap₂, _∙_}
 use mathlib.Core.List.{List, [], _∷_, _++_}
 use Prim.Native.Nat.{ℕ, zero, suc, _+_, _-_, _*_, _≤_, _<_}
@@ -21,9 +21,9 @@ use Rattle.execution.proofs.Beside.{After, after-beside, result-size}
 use Rattle.complex.specs.Acts.{Slots, Call, holding}
 use Rattle.complex.specs.Layout.{numberOf}
 use Rattle.complex.proofs.Laid.{number-size}
-use Rattle.transform.specs.Inner.{slotAt, slotStep, heldOf, written, HeldIn, HeldDone}
-use Rattle.transform.proofs.Written.{written-other}
-use Rattle.transform.proofs.Held.{read-other, held-written}
+use Rattle.slots.specs.Inner.{slotAt, slotStep, heldOf, written, HeldIn, HeldDone}
+use Rattle.slots.proofs.Written.{written-other}
+use Rattle.slots.proofs.Holding.{read-other, held-written}
 
 -- shares written 32 apart are shares placed in a register
 written-placed : (r i : ℕ) (xs l : List ℕ) → written 32 r i xs l ≡ placedIn r i xs l

@@ -1,4 +1,4 @@
--- `transform::slots::put` meets its contract.
+-- `slots::held::put` meets its contract.
 use mathlib.Core.Path.{_≡_, refl, ap, _∙_}
 use mathlib.Core.List.{List}
 use Prim.Native.Nat.{ℕ, suc, _-_, _≤_}
@@ -9,10 +9,10 @@ use borrow.Author.Needs.{needs}
 use Rattle.masking.proofs.emitted.Counts.{by-count}
 use Rattle.complex.specs.Acts.{plainShares}
 use Rattle.complex.specs.Layout.{numberOf}
-use Rattle.transform.specs.Inner.{slotAt, slotStep, written}
-use Rattle.transform.proofs.Held.{held-written}
-use Rattle.transform.proofs.slots.put.Statement.{statement}
-use Rattle.transform.proofs.slots.put.Tie as tie
+use Rattle.slots.specs.Inner.{slotAt, slotStep, written}
+use Rattle.slots.proofs.Holding.{held-written}
+use Rattle.slots.proofs.held.put.Statement.{statement}
+use Rattle.slots.proofs.held.put.Tie as tie
 
 -- the word and zeros, as many as there are shares
 plain-number : (w n : ℕ) → 2 ≤ n → n ≤ 8 → numberOf n 1 0 (set (replicate 8 0) 0 w) ≡ plainShares n w

@@ -11,8 +11,8 @@ use borrow.Author.Tests.{eq-eqb, ne-eqb}
 use Rattle.complex.specs.Acts.{Slots, holding, lending, flipped, flippedFirst}
 use Rattle.complex.specs.Layout.{numberOf}
 use Rattle.complex.proofs.Laid.{number-size, number-at}
-use Rattle.transform.specs.Inner.{slotAt, slotStep, heldOf, written, Inside, HeldIn, LentIn}
-use Rattle.transform.proofs.Written.{written-size, written-other, written-at}
+use Rattle.slots.specs.Inner.{slotAt, slotStep, heldOf, written, Inside, HeldIn, LentIn}
+use Rattle.slots.proofs.Written.{written-size, written-other, written-at}
 
 -- ---- a number written where it is read
 read-written : (n step at : ℕ) (xs l : List ℕ) → ((a b : ℕ) → step * a + at ≡ step * b + at → a ≡ b) → length xs ≡ n → Inside n step at (length l)
