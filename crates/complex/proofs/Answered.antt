@@ -5,6 +5,7 @@ use Prim.Native.Nat.{ℕ, _*_, _≤_}
 use native.Mathlib.Omega.{arith}
 use lib.Dec.{ltb, eqb}
 use borrow.Author.Tests.{ltb-false, eqb-true, not-false}
+use Rattle.checks.specs.declared.answer.Answer.{Answer}
 use Rattle.word.specs.Layout.{isShareCount}
 use Rattle.word.proofs.Small.{share-range}
 use Rattle.checks.specs.Answers.{refused}
@@ -18,10 +19,10 @@ pub record PlainReady (N h numbers factors : ℕ) : Type 0 where
   pub numbers-are : numbers ≡ 2 * N
   pub factors-are : factors ≡ 2 * blocks N h
 
-pub plain-ready : (N h numbers factors : ℕ) → plainLayerAnswer N h numbers factors .number ≡ 0 → PlainReady N h numbers factors
+pub plain-ready : (N h numbers factors : ℕ) (a : Answer) → a ≡ plainLayerAnswer N h numbers factors → a .number ≡ 0 → PlainReady N h numbers factors
 unfolding plainLayerAnswer
-plain-ready N h numbers factors z =
-    let p₇ = passed (not (isLayer N h)) (refused 7) _ (λ e. omega arith) z in
+plain-ready N h numbers factors a e z =
+    let p₇ = passed (not (isLayer N h)) (refused 7) _ (λ e. omega arith) (sym (ap (λ (x : Answer). x .number) e) ∙ z) in
     let p₄ = passed (not (eqb numbers (2 * N) && eqb factors (2 * blocks N h))) (refused 4) _ (λ e. omega arith) (p₇ .1) in
     let l = both (eqb numbers (2 * N)) (eqb factors (2 * blocks N h)) (not-false _ (p₄ .0)) in
     record {
@@ -39,10 +40,10 @@ pub record LayerReady (n N h numbers factors work tape : ℕ) : Type 0 where
   pub work-is : work ≡ 512
   pub enough : layerTape n N ≤ tape
 
-pub layer-ready : (n N h numbers factors work tape : ℕ) → layerAnswer n N h numbers factors work tape .number ≡ 0 → LayerReady n N h numbers factors work tape
+pub layer-ready : (n N h numbers factors work tape : ℕ) (a : Answer) → a ≡ layerAnswer n N h numbers factors work tape → a .number ≡ 0 → LayerReady n N h numbers factors work tape
 unfolding layerAnswer
-layer-ready n N h numbers factors work tape z =
-    let p₁ = passed (not (isShareCount n)) (refused 1) _ (λ e. omega arith) z in
+layer-ready n N h numbers factors work tape a e z =
+    let p₁ = passed (not (isShareCount n)) (refused 1) _ (λ e. omega arith) (sym (ap (λ (x : Answer). x .number) e) ∙ z) in
     let p₇ = passed (not (isLayer N h)) (refused 7) _ (λ e. omega arith) (p₁ .1) in
     let p₄ = passed (not (eqb numbers (2 * N * n) && (eqb factors (2 * blocks N h) && eqb work 512))) (refused 4) _ (λ e. omega arith) (p₇ .1) in
     let p₆ = passed (ltb tape (layerTape n N)) (refused 6) _ (λ e. omega arith) (p₄ .1) in
@@ -68,10 +69,10 @@ pub record ComplexReady (n x y result work tape : ℕ) : Type 0 where
   pub work-is : work ≡ 512
   pub enough : complexTape n ≤ tape
 
-pub complex-ready : (n x y result work tape : ℕ) → complexAnswer n x y result work tape .number ≡ 0 → ComplexReady n x y result work tape
+pub complex-ready : (n x y result work tape : ℕ) (a : Answer) → a ≡ complexAnswer n x y result work tape → a .number ≡ 0 → ComplexReady n x y result work tape
 unfolding complexAnswer
-complex-ready n x y result work tape z =
-    let p₁ = passed (not (isShareCount n)) (refused 1) _ (λ e. omega arith) z in
+complex-ready n x y result work tape a e z =
+    let p₁ = passed (not (isShareCount n)) (refused 1) _ (λ e. omega arith) (sym (ap (λ (x : Answer). x .number) e) ∙ z) in
     let p₄ = passed (not (eqb x (2 * n) && (eqb y (2 * n) && (eqb result (2 * n) && eqb work 512)))) (refused 4) _ (λ e. omega arith) (p₁ .1) in
     let p₆ = passed (ltb tape (complexTape n)) (refused 6) _ (λ e. omega arith) (p₄ .1) in
     let s = share-range n (not-false (isShareCount n) (p₁ .0)) in

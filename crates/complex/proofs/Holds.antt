@@ -1,7 +1,7 @@
 -- All that is proved of the complex product and of a layer (`transforms`), in terms of the lent words: what holds of any list of acts (Joined,
 -- Secret), at the slots that these calls start from (Starts), with their tape words (Tape). Rests on Answered for what a done call was given,
 -- and on Laid for reading results.
-use mathlib.Core.Path.{_≡_, sym, ap, ap₂, subst, _∙_}
+use mathlib.Core.Path.{_≡_, refl, sym, ap, ap₂, subst, _∙_}
 use mathlib.Core.List.{List, [], _∷_, _++_}
 use Prim.Native.Nat.{ℕ, _+_, _*_, _≤_, _<_}
 use native.Mathlib.Omega.{arith}
@@ -63,7 +63,7 @@ complex-holds : ComplexHolds
 complex-holds =
     record {
       joins = λ n x y result work tape wx wy wt z.
-          let R = complex-ready n (length x) (length y) (length result) (length work) (length tape) z in
+          let R = complex-ready n (length x) (length y) (length result) (length work) (length tape) _ refl z in
           rw (eq-eqb _ 0 z) (complex-joins n (R .least) (R .most) x y tape wx wy wt (R .enough));
       tape = λ n least most. (four-two n, complex-units n least most);
       secret = complex-secret;
@@ -103,7 +103,7 @@ layer-holds : LayerHolds
 layer-holds =
     record {
       joins = λ n N h numbers factors work tape wn wf wt z.
-          let R = layer-ready n N h (length numbers) (length factors) (length work) (length tape) z in
+          let R = layer-ready n N h (length numbers) (length factors) (length work) (length tape) _ refl z in
           rw (eq-eqb _ 0 z) (layer-joins n N h (R .least) (R .most) numbers factors tape wn wf wt (R .enough));
       tape = λ n N h factors least most. (layer-calls n N h factors, layer-units n least most N);
       secret = layer-secret;

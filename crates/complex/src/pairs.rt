@@ -36,8 +36,8 @@ pub(crate) fn all_pairs(count: usize, distance: usize, numbers: &mut [u64], fact
     let blocks = count / (2 * distance);
     let mut k = 0;
     while k < count / 2 {
+        let p = 2 * distance * (k / distance) + k % distance;
         let block = k / distance;
-        let p = 2 * distance * block + k % distance;
         pair(
             count,
             distance,

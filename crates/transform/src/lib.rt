@@ -10,9 +10,7 @@ use crate::whole::product_done;
 use checks::answer::Answer;
 
 mod answers;
-mod pair;
 mod pairs;
-mod product;
 mod whole;
 
 // The product of shared complex numbers x and y, n shares each: share i has the real part in word 2i and the imaginary part in word 2i + 1, in the

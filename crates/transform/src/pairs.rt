@@ -5,7 +5,7 @@ ghost use Prim.Native.Nat.{_*_, _≤_};
 ghost use lib.ListN.{length, replicate};
 ghost use Rattle.complex.specs.Calls.{layerShares, layerTape};
 ghost use Rattle.complex.specs.Layer.{blocks, isLayer};
-use crate::pair::pair;
+use butterfly::pair::pair;
 use execution::work::clear;
 use word::step_word::StepWord;
 
@@ -26,8 +26,8 @@ fn all_pairs(
     let mut t = 0;
     let mut k = 0;
     while k < count / 2 {
+        let p = 2 * distance * (k / distance) + k % distance;
         let block = k / distance;
-        let p = 2 * distance * block + k % distance;
         let re = factors[block];
         let im = factors[blocks + block];
         t = pair(n, count, distance, re, im, p, numbers, work, tape, t);

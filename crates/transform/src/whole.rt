@@ -5,7 +5,7 @@ ghost use lib.ListN.{length, replicate};
 ghost use Rattle.complex.specs.Calls.{complexShares, complexStart, complexTape};
 ghost use Rattle.slots.specs.Inner.{HeldIn};
 ghost use Rattle.transform.specs.Inner.{PartsOut};
-use crate::product::multiply_complex;
+use butterfly::product::multiply_complex;
 use execution::work::clear;
 use slots::copies::copy;
 use slots::held::A;

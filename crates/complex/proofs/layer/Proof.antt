@@ -1,11 +1,8 @@
 -- `complex::layer` meets its contract.
-use mathlib.Core.Path.{sym, ap, _∙_}
-use Prim.Native.Nat.{ℕ}
 use denote.Ref.{now}
 use lib.ListN.{length}
 use borrow.Author.Needs.{needs}
 use borrow.Author.Tests.{eq-eqb, ne-eqb}
-use Rattle.checks.specs.declared.answer.Answer.{Answer}
 use Rattle.complex.proofs.Answered.{plain-ready}
 use Rattle.complex.proofs.layer.Statement.{statement}
 use Rattle.complex.proofs.layer.Tie as tie
@@ -15,7 +12,7 @@ all-pairs-requires c κs =
     let t = c .before in
     let a = t .before .before in
     let g = a .before .before .before .args in
-    let R = plain-ready (g .count) (g .distance) (length (now (g .numbers))) (length (now (g .factors))) (sym (ap (λ (a : Answer). a .number) (a .layer-answer .ensures)) ∙ t .if1 .taken) in
+    let R = plain-ready (g .count) (g .distance) (length (now (g .numbers))) (length (now (g .factors))) (a .layer-answer .result) (a .layer-answer .ensures) (t .if1 .taken) in
     (R .layer, R .numbers-are, R .factors-are)
 
 returns : tie.Need-returns

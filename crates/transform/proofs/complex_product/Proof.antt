@@ -1,11 +1,10 @@
 -- `transform::complex_product` meets its contract.
-use mathlib.Core.Path.{sym, ap, _∙_}
+use mathlib.Core.Path.{ap, _∙_}
 use Prim.Native.Nat.{ℕ}
 use denote.Ref.{now}
 use lib.ListN.{length, replicate}
 use borrow.Author.Needs.{needs}
 use borrow.Author.Tests.{eq-eqb, ne-eqb}
-use Rattle.checks.specs.declared.answer.Answer.{Answer}
 use Rattle.complex.proofs.Answered.{complex-ready}
 use Rattle.complex.proofs.Holds.{transforms}
 use Rattle.transform.proofs.complex_product.Statement.{statement}
@@ -15,15 +14,16 @@ product-done-requires : tie.Need-product-done-requires
 product-done-requires c κs =
     let a = c .before .before .before .before in
     let g = c .before .before .before .before .before .before .before .before .before .before .args in
-    let R = complex-ready (g .n) (length (now (g .x))) (length (now (g .y))) (length (now (g .result))) (length (now (g .work))) (length (now (g .tape))) (sym (ap (λ (a : Answer). a .number) (a .complex-answer .ensures)) ∙ c .before .before .if1 .taken) in
+    let R = complex-ready (g .n) (length (now (g .x))) (length (now (g .y))) (length (now (g .result))) (length (now (g .work))) (length (now (g .tape))) (a .complex-answer .result) (a .complex-answer .ensures) (c .before .before .if1 .taken) in
     (R .least, R .most, R .x-is, R .y-is, R .result-is, R .work-is, R .enough)
 
 returns : tie.Need-returns
 returns c =
-    let e = c .before .before .before .before .before .before .before .before .before .complex-answer .ensures in
+    let a = c .before .before .before .before .before .before .before .before .before .complex-answer in
+    let e = a .ensures in
     let z = c .before .before .before .before .before .before .before .if1 .taken in
     let g = c .before .before .before .before .before .before .before .before .before .before .before .before .before .before .before .args in
-    let R = complex-ready (g .n) (length (now (g .x))) (length (now (g .y))) (length (now (g .result))) (length (now (g .work))) (length (now (g .tape))) (sym (ap (λ (a : Answer). a .number) e) ∙ z) in
+    let R = complex-ready (g .n) (length (now (g .x))) (length (now (g .y))) (length (now (g .result))) (length (now (g .work))) (length (now (g .tape))) (a .result) e z in
     let d = c .before .before .before .before .product-done .ensures in
     (e, (rw (← e, eq-eqb _ 0 z) (d .0), (rw (← e, eq-eqb _ 0 z) (d .1 ∙ ap (λ (k : ℕ). replicate k 0) (R .work-is)), transforms)))
 

@@ -1,11 +1,10 @@
 -- `transform::layer` meets its contract.
-use mathlib.Core.Path.{sym, ap, _∙_}
+use mathlib.Core.Path.{ap, _∙_}
 use Prim.Native.Nat.{ℕ}
 use denote.Ref.{now}
 use lib.ListN.{length, replicate}
 use borrow.Author.Needs.{needs}
 use borrow.Author.Tests.{eq-eqb, ne-eqb}
-use Rattle.checks.specs.declared.answer.Answer.{Answer}
 use Rattle.complex.proofs.Answered.{layer-ready}
 use Rattle.complex.proofs.Holds.{transforms}
 use Rattle.transform.proofs.layer.Statement.{statement}
@@ -14,15 +13,16 @@ use Rattle.transform.proofs.layer.Tie as tie
 layer-done-requires : tie.Need-layer-done-requires
 layer-done-requires c κs =
     let g = c .before .before .before .before .before .before .before .before .before .args in
-    let R = layer-ready (g .n) (g .count) (g .distance) (length (now (g .numbers))) (length (now (g .factors))) (length (now (g .work))) (length (now (g .tape))) (sym (ap (λ (a : Answer). a .number) (c .before .before .before .before .layer-answer .ensures)) ∙ c .before .before .if1 .taken) in
+    let R = layer-ready (g .n) (g .count) (g .distance) (length (now (g .numbers))) (length (now (g .factors))) (length (now (g .work))) (length (now (g .tape))) (c .before .before .before .before .layer-answer .result) (c .before .before .before .before .layer-answer .ensures) (c .before .before .if1 .taken) in
     (R .least, R .most, R .layer, R .numbers-are, R .factors-are, R .work-is, R .enough)
 
 returns : tie.Need-returns
 returns c =
-    let e = c .before .before .before .before .before .before .before .before .before .layer-answer .ensures in
+    let a = c .before .before .before .before .before .before .before .before .before .layer-answer in
+    let e = a .ensures in
     let z = c .before .before .before .before .before .before .before .if1 .taken in
     let g = c .before .before .before .before .before .before .before .before .before .before .before .before .before .before .args in
-    let R = layer-ready (g .n) (g .count) (g .distance) (length (now (g .numbers))) (length (now (g .factors))) (length (now (g .work))) (length (now (g .tape))) (sym (ap (λ (a : Answer). a .number) e) ∙ z) in
+    let R = layer-ready (g .n) (g .count) (g .distance) (length (now (g .numbers))) (length (now (g .factors))) (length (now (g .work))) (length (now (g .tape))) (a .result) e z in
     let d = c .before .before .before .before .layer-done .ensures in
     (e, (rw (← e, eq-eqb _ 0 z) (d .0), (rw (← e, eq-eqb _ 0 z) (d .1 ∙ ap (λ (k : ℕ). replicate k 0) (R .work-is)), transforms)))
 

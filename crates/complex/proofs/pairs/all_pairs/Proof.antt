@@ -24,11 +24,11 @@ div-blocks c = let S = sizes _ _ (c .before .before .pre .0) in omega (arith, S 
 loop-holds : tie.Need-loop-holds Inv-loop μ-loop
 loop-holds c = let s = c .before .before in (omega arith, none-done (s .args .count) (s .args .distance) (now (s .args .numbers)) (now (s .args .factors)) (s .pre .1))
 
-div-block : tie.Need-div-block Inv-loop μ-loop
-div-block c = sizes _ _ (c .before .before .before .before .pre .0) .some
-
 mul-p : tie.Need-mul-p Inv-loop μ-loop
 mul-p c = let S = sizes _ _ (c .before .before .before .before .pre .0) in omega (arith, S .most, S .below)
+
+div-p : tie.Need-div-p Inv-loop μ-loop
+div-p c = sizes _ _ (c .before .before .before .before .pre .0) .some
 
 mul-p-2 : tie.Need-mul-p-2 Inv-loop μ-loop
 mul-p-2 c =
@@ -44,6 +44,9 @@ add-p c =
     let S = sizes _ _ (c .before .before .before .before .pre .0) in
     let P = pair-placed _ _ (c .before .loop .k) S (omega arith) in
     omega (arith, S .most, P .inside)
+
+div-block : tie.Need-div-block Inv-loop μ-loop
+div-block c = sizes _ _ (c .before .before .before .before .pre .0) .some
 
 mul-pair : tie.Need-mul-pair Inv-loop μ-loop
 mul-pair c =
@@ -107,11 +110,12 @@ all-pairs-spec =
     mul-blocks
     div-blocks
     loop-holds
-    div-block
     mul-p
+    div-p
     mul-p-2
     rem-p
     add-p
+    div-block
     mul-pair
     shared-slice-read-pair
     add-pair

@@ -28,11 +28,11 @@ loop-holds c =
     let g = s .args in
     (omega arith, none-done (g .n) (g .count) (g .distance) (now (g .numbers)) (now (g .factors)) (now (g .tape)) (s .pre .1) (s .pre .3) (s .pre .5))
 
-div-block : tie.Need-div-block Inv-loop μ-loop
-div-block c = sizes _ _ (c .before .before .before .before .before .before .pre .2) .some
-
 mul-p : tie.Need-mul-p Inv-loop μ-loop
 mul-p c = let S = sizes _ _ (c .before .before .before .before .before .before .pre .2) in omega (arith, S .most, S .below)
+
+div-p : tie.Need-div-p Inv-loop μ-loop
+div-p c = sizes _ _ (c .before .before .before .before .before .before .pre .2) .some
 
 mul-p-2 : tie.Need-mul-p-2 Inv-loop μ-loop
 mul-p-2 c =
@@ -46,6 +46,9 @@ add-p : tie.Need-add-p Inv-loop μ-loop
 add-p c =
     let S = sizes _ _ (c .before .before .before .before .before .before .pre .2) in
     omega (arith, S .most, pair-placed _ _ (c .before .loop .k) S (omega arith) .inside)
+
+div-block : tie.Need-div-block Inv-loop μ-loop
+div-block c = sizes _ _ (c .before .before .before .before .before .before .pre .2) .some
 
 mul-re : tie.Need-mul-re Inv-loop μ-loop
 mul-re c =
@@ -122,11 +125,12 @@ all-pairs-spec =
     mul-blocks
     div-blocks
     loop-holds
-    div-block
     mul-p
+    div-p
     mul-p-2
     rem-p
     add-p
+    div-block
     mul-re
     shared-slice-read-re
     add-im

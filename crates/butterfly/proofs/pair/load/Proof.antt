@@ -1,4 +1,4 @@
--- `transform::pair::load` meets its contract.
+-- `butterfly::pair::load` meets its contract.
 use mathlib.Core.List.{[], _∷_}
 use Prim.Native.Nat.{_+_, _*_}
 use native.Mathlib.Omega.{arith}
@@ -9,8 +9,8 @@ use Rattle.complex.specs.Complex.{slotC, slotD}
 use Rattle.complex.specs.Layer.{slotURe, slotUIm}
 use Rattle.slots.proofs.Holding.{row-inside, numbers-most}
 use Rattle.slots.proofs.OneByOne.{done-then, loaded}
-use Rattle.transform.proofs.pair.load.Statement.{statement}
-use Rattle.transform.proofs.pair.load.Tie as tie
+use Rattle.butterfly.proofs.pair.load.Statement.{statement}
+use Rattle.butterfly.proofs.pair.load.Tie as tie
 
 copy-requires : tie.Need-copy-requires
 copy-requires c κs =

@@ -6,7 +6,7 @@ ghost use lib.ListN.{drop, length};
 ghost use Rattle.complex.specs.Acts.{tapeFor};
 ghost use Rattle.complex.specs.Layer.{pairActs, plusMinus, putBack, taken};
 ghost use Rattle.slots.specs.Inner.{Done, HeldDone};
-ghost use Rattle.transform.specs.Inner.{numbersLoaded};
+ghost use Rattle.butterfly.specs.Inner.{numbersLoaded};
 use crate::product::multiply_complex;
 use slots::calls::add;
 use slots::copies::copy;
@@ -100,7 +100,7 @@ fn put_back(n: usize, count: usize, distance: usize, p: usize, numbers: &mut [u6
 }
 
 // The pair of u at place p with the factor re + im i, over the tape from `start` on; the answer is the next place.
-pub(crate) fn pair(
+pub fn pair(
     n: usize,
     count: usize,
     distance: usize,

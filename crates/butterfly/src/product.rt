@@ -5,7 +5,7 @@ ghost use lib.ListN.{drop, length};
 ghost use Rattle.complex.specs.Acts.{tapeFor};
 ghost use Rattle.complex.specs.Complex.{complexActs};
 ghost use Rattle.slots.specs.Inner.{HeldDone};
-ghost use Rattle.transform.specs.Inner.{fourProducts, twoSums};
+ghost use Rattle.butterfly.specs.Inner.{fourProducts, twoSums};
 use slots::calls::add;
 use slots::calls::multiply;
 use slots::held::A;
@@ -42,7 +42,7 @@ fn two_sums(n: usize, tape: &[u64], start: usize, work: &mut [u64]) -> usize
 }
 
 // All six.
-pub(crate) fn multiply_complex(n: usize, tape: &[u64], start: usize, work: &mut [u64]) -> usize
+pub fn multiply_complex(n: usize, tape: &[u64], start: usize, work: &mut [u64]) -> usize
     requires { ⌜ (2 ≤ n) × (n ≤ 8) × (length (now work) ≡ 512) × (start + tapeFor n complexActs ≤ length (now tape)) ⌝ }
     ensures { λ r. ⌜ (r ≡ start + tapeFor n complexActs) × HeldDone n complexActs (drop start (now (tape .entry))) (now (work .entry)) (now (work .exit)) ⌝ }
 {

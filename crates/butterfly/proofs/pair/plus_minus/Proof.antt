@@ -1,4 +1,4 @@
--- `transform::pair::plus_minus` meets its contract.
+-- `butterfly::pair::plus_minus` meets its contract.
 use mathlib.Core.List.{List, [], _∷_}
 use native.Mathlib.Omega.{arith}
 use denote.Ref.{now}
@@ -8,8 +8,8 @@ use Rattle.complex.specs.Acts.{Act, Flip, Call}
 use Rattle.complex.specs.Complex.{slotRe, slotIm}
 use Rattle.complex.specs.Layer.{slotURe, slotUIm, slotPlusRe, slotPlusIm, slotMinusRe, slotMinusIm}
 use Rattle.slots.proofs.OneByOne.{held-then}
-use Rattle.transform.proofs.pair.plus_minus.Statement.{statement}
-use Rattle.transform.proofs.pair.plus_minus.Tie as tie
+use Rattle.butterfly.proofs.pair.plus_minus.Statement.{statement}
+use Rattle.butterfly.proofs.pair.plus_minus.Tie as tie
 
 abbrev plus : List Act
 plus = Call Sum slotPlusRe slotURe slotRe ∷ Call Sum slotPlusIm slotUIm slotIm ∷ []

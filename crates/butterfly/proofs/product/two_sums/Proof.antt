@@ -1,4 +1,4 @@
--- `transform::product::two_sums` meets its contract.
+-- `butterfly::product::two_sums` meets its contract.
 use mathlib.Core.List.{List, [], _∷_}
 use native.Mathlib.Omega.{arith}
 use denote.Ref.{now}
@@ -7,8 +7,8 @@ use Rattle.binary64.specs.Operations.{Sum}
 use Rattle.complex.specs.Acts.{Flip, Call}
 use Rattle.complex.specs.Complex.{slotAC, slotBD, slotAD, slotBC, slotRe, slotIm}
 use Rattle.slots.proofs.OneByOne.{held-then}
-use Rattle.transform.proofs.product.two_sums.Statement.{statement}
-use Rattle.transform.proofs.product.two_sums.Tie as tie
+use Rattle.butterfly.proofs.product.two_sums.Statement.{statement}
+use Rattle.butterfly.proofs.product.two_sums.Tie as tie
 
 returns : tie.Need-returns
 returns c =

@@ -1,4 +1,4 @@
--- `transform::product::four_products` meets its contract.
+-- `butterfly::product::four_products` meets its contract.
 use mathlib.Core.List.{List, [], _∷_}
 use native.Mathlib.Omega.{arith}
 use denote.Ref.{now}
@@ -7,8 +7,8 @@ use Rattle.binary64.specs.Operations.{Product}
 use Rattle.complex.specs.Acts.{Call}
 use Rattle.complex.specs.Complex.{slotA, slotB, slotC, slotD, slotAC, slotBD, slotAD, slotBC}
 use Rattle.slots.proofs.OneByOne.{held-then}
-use Rattle.transform.proofs.product.four_products.Statement.{statement}
-use Rattle.transform.proofs.product.four_products.Tie as tie
+use Rattle.butterfly.proofs.product.four_products.Statement.{statement}
+use Rattle.butterfly.proofs.product.four_products.Tie as tie
 
 returns : tie.Need-returns
 returns c =

@@ -1,4 +1,4 @@
--- `transform::pair::put_back` meets its contract.
+-- `butterfly::pair::put_back` meets its contract.
 use mathlib.Core.Path.{_∙_}
 use mathlib.Core.List.{[], _∷_}
 use Prim.Native.Nat.{_+_, _*_}
@@ -9,8 +9,8 @@ use Rattle.complex.specs.Acts.{Store}
 use Rattle.complex.specs.Layer.{slotPlusRe, slotPlusIm, slotMinusRe, slotMinusIm}
 use Rattle.slots.proofs.Holding.{row-inside, numbers-most}
 use Rattle.slots.proofs.OneByOne.{done-then, stored}
-use Rattle.transform.proofs.pair.put_back.Statement.{statement}
-use Rattle.transform.proofs.pair.put_back.Tie as tie
+use Rattle.butterfly.proofs.pair.put_back.Statement.{statement}
+use Rattle.butterfly.proofs.pair.put_back.Tie as tie
 
 copy-requires : tie.Need-copy-requires
 copy-requires c κs =

@@ -1,4 +1,4 @@
--- `transform::pair::pair` meets its contract.
+-- `butterfly::pair::pair` meets its contract.
 use mathlib.Core.Path.{refl}
 use mathlib.Core.List.{_++_}
 use Prim.Native.Nat.{_*_}
@@ -9,8 +9,8 @@ use borrow.Author.Needs.{needs}
 use Rattle.complex.specs.Complex.{complexActs}
 use Rattle.complex.specs.Layer.{taken, plusMinus, putBack}
 use Rattle.slots.proofs.OneByOne.{done-then, held-done}
-use Rattle.transform.proofs.pair.pair.Statement.{statement}
-use Rattle.transform.proofs.pair.pair.Tie as tie
+use Rattle.butterfly.proofs.pair.pair.Statement.{statement}
+use Rattle.butterfly.proofs.pair.pair.Tie as tie
 
 returns : tie.Need-returns
 returns c =

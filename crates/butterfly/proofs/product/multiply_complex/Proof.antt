@@ -1,12 +1,12 @@
--- `transform::product::multiply_complex` meets its contract.
+-- `butterfly::product::multiply_complex` meets its contract.
 use mathlib.Core.List.{List, [], _∷_}
 use native.Mathlib.Omega.{arith}
 use denote.Ref.{now}
 use borrow.Author.Needs.{needs}
-use Rattle.transform.specs.Inner.{fourProducts, twoSums}
+use Rattle.butterfly.specs.Inner.{fourProducts, twoSums}
 use Rattle.slots.proofs.OneByOne.{held-then}
-use Rattle.transform.proofs.product.multiply_complex.Statement.{statement}
-use Rattle.transform.proofs.product.multiply_complex.Tie as tie
+use Rattle.butterfly.proofs.product.multiply_complex.Statement.{statement}
+use Rattle.butterfly.proofs.product.multiply_complex.Tie as tie
 
 returns : tie.Need-returns
 returns c =

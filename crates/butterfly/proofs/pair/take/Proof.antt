@@ -1,4 +1,4 @@
--- `transform::pair::take` meets its contract.
+-- `butterfly::pair::take` meets its contract.
 use mathlib.Core.Path.{refl}
 use mathlib.Core.List.{[], _∷_}
 use Prim.Native.Nat.{_*_}
@@ -7,10 +7,10 @@ use denote.Ref.{now}
 use borrow.Author.Needs.{needs}
 use Rattle.complex.specs.Acts.{Put}
 use Rattle.complex.specs.Complex.{slotA, slotB}
-use Rattle.transform.specs.Inner.{numbersLoaded}
+use Rattle.butterfly.specs.Inner.{numbersLoaded}
 use Rattle.slots.proofs.OneByOne.{done-then, held-done}
-use Rattle.transform.proofs.pair.take.Statement.{statement}
-use Rattle.transform.proofs.pair.take.Tie as tie
+use Rattle.butterfly.proofs.pair.take.Statement.{statement}
+use Rattle.butterfly.proofs.pair.take.Tie as tie
 
 returns : tie.Need-returns
 returns c =
