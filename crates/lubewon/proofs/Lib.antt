@@ -1,6 +1,7 @@
 -- The root of what is claimed, proved (Claims), with the examples of turn-downs (TurnDowns); its statements once more at their arguments
--- (Statements), and taken apart (Parts).
+-- (Statements), and taken apart (Parts); both of the claims on complex numbers (Transformed).
 pub mod Claims
 pub mod Parts
 pub mod Statements
+pub mod Transformed
 pub mod TurnDowns

@@ -1,0 +1,107 @@
+-- The claims on complex numbers once more: their records field by field, and at their arguments with every condition written out. What is narrowed,
+-- halved, or asks for more fails here, as in Parts and Statements.
+use mathlib.Core.Path.{_≡_, _∙_}
+use mathlib.Core.List.{List, [], _∷_, _++_}
+use Prim.Native.Nat.{ℕ, suc, _+_, _-_, _*_, _/_, _≤_, _<_}
+use lib.ListN.{length, getD, take, drop}
+use Rattle.masking.specs.Translation.{program}
+use Rattle.masking.specs.Foretold.{foretoldTape}
+use Rattle.masking.specs.Machine.{Words}
+use Rattle.masking.specs.Secrecy.{Tape, Pairing, doneAfter, wordAfter}
+use Rattle.masking.specs.Kept.{EndsAgree}
+use Rattle.binary64.specs.Product.{product}
+use Rattle.binary64.specs.Sum.{sum}
+use Rattle.binary64.specs.Operations.{Operation}
+use Rattle.plans.specs.BuiltIns.{planOf}
+use Rattle.execution.specs.Shares.{placed}
+use Rattle.splitting.specs.SplitJoin.{xorAll}
+use Rattle.complex.specs.Acts.{Act, Call, Slots, flipped, runPlain, tapeFor, runShares}
+use Rattle.complex.specs.Complex.{complexActs}
+use Rattle.complex.specs.Layer.{layerActs}
+use Rattle.complex.specs.Layout.{numberOf, joinedWords}
+use Rattle.complex.specs.Calls.{complexStart, complexCallAnswer, complexResult, layerStart, layerCallAnswer, layerNumbers, layerWords}
+use Rattle.complex.specs.Secrecy.{Shared, AgreeIn, PutsWords, CallHidden}
+use Rattle.complex.specs.Holds.{joinedSlots, OperandsAgree, ComplexHolds, LayerHolds, Transforms}
+use Rattle.lubewon.specs.Claims.{Claims}
+
+shared : {n : ℕ} {s : Slots (List ℕ)} → Shared n s → Shared n s
+shared h = record { held = h .held; lent = h .lent }
+
+agree-in : {i : ℕ} {s s′ : Slots (List ℕ)} → AgreeIn i s s′ → AgreeIn i s s′
+agree-in h = record { held = h .held; lent = h .lent }
+
+ends-agree : {n i : ℕ} {plan l l′ : List ℕ} → EndsAgree n plan i l l′ → EndsAgree n plan i l l′
+ends-agree h = record { pairing = h .pairing; agree = h .agree }
+
+operands-agree : {n i : ℕ} {x y x′ y′ : List ℕ} → OperandsAgree n i x y x′ y′ → OperandsAgree n i x y x′ y′
+operands-agree h = record { first = h .first; second = h .second }
+
+complex-holds : ComplexHolds → ComplexHolds
+complex-holds h = record { joins = h .joins; tape = h .tape; secret = h .secret }
+
+layer-holds : LayerHolds → LayerHolds
+layer-holds h = record { joins = h .joins; tape = h .tape; secret = h .secret }
+
+transforms : Transforms → Transforms
+transforms h = record { acts-join = h .acts-join; acts-secret = h .acts-secret; complex = h .complex; layer = h .layer }
+
+-- a step of a call, over paired tapes for the whole list: the call's start, the words before its part and its part written out
+module _ (n : ℕ) (acts before : List Act) (o : Operation) (a b step : ℕ) (s s′ : Slots (List ℕ)) (H : CallHidden n acts before o a b step s s′) where
+  abbrev begun : Slots (List ℕ) → List ℕ → List ℕ
+  begun st tape = placed (runShares n before tape st .held a) (runShares n before tape st .held b)
+
+  abbrev earlier : List ℕ → List ℕ
+  earlier tape = take (tapeFor n before) tape
+
+  abbrev part : List ℕ → List ℕ
+  part tape = take (foretoldTape n (planOf o)) (drop (tapeFor n before) tape)
+
+  abbrev paired : Pairing (tapeFor n acts)
+  paired = H .pairing
+
+  equal : (tape : List ℕ) → Tape (tapeFor n acts) tape → (budgets budgets′ : List ℕ)
+      → doneAfter n (planOf o) (begun s tape) (earlier tape) (part tape) budgets ≡ suc step
+      → doneAfter n (planOf o) (begun s′ (paired .there tape)) (earlier (paired .there tape)) (part (paired .there tape)) budgets′ ≡ suc step
+      → wordAfter n (planOf o) step (begun s tape) (earlier tape) (part tape) budgets
+      ≡ wordAfter n (planOf o) step (begun s′ (paired .there tape)) (earlier (paired .there tape)) (part (paired .there tape)) budgets′
+  equal = H .equal
+
+module _ (C : Claims) where
+  joined : (n : ℕ) → 2 ≤ n → n ≤ 8 → (acts : List Act) → PutsWords acts → (s : Slots (List ℕ)) → Shared n s → (tape : List ℕ) → Words tape
+      → tapeFor n acts ≤ length tape → joinedSlots (runShares n acts tape s) ≡ runPlain acts (joinedSlots s)
+  joined = C .transforms .acts-join
+
+  secret : (n : ℕ) → 2 ≤ n → n ≤ 8 → (before : List Act) (o : Operation) (k a b : ℕ) (after : List Act) → PutsWords (before ++ (Call o k a b ∷ after))
+      → (step : ℕ) → step < length (program n (planOf o))
+      → (i : ℕ) × (i < n) × ((s s′ : Slots (List ℕ)) → Shared n s → Shared n s′ → AgreeIn i s s′ → CallHidden n (before ++ (Call o k a b ∷ after)) before o a b step s s′)
+  secret n l m before o k a b after p step h = let q = C .transforms .acts-secret n l m before o k a b after p step h in (q .share, q .below, q .hidden)
+
+  complex-joins : (n : ℕ) (x y result work tape : List ℕ) → Words x → Words y → Words tape → complexCallAnswer n x y result work tape .number ≡ 0
+      → let a = xorAll (numberOf n 2 0 x) in let b = xorAll (numberOf n 2 1 x) in let c = xorAll (numberOf n 2 0 y) in let d = xorAll (numberOf n 2 1 y) in
+      joinedWords n 2 (complexResult n x y result work tape) ≡ sum (product a c) (flipped (product b d)) ∷ sum (product a d) (product b c) ∷ []
+  complex-joins = C .transforms .complex .joins
+
+  complex-tape : (n : ℕ) → 2 ≤ n → n ≤ 8 → tapeFor n complexActs ≡ 518 * (n * (n - 1))
+  complex-tape n l m = let q = C .transforms .complex .tape n l m in q .0 ∙ q .1
+
+  complex-secret : (n : ℕ) → 2 ≤ n → n ≤ 8 → (before : List Act) (o : Operation) (k a b : ℕ) (after : List Act) → complexActs ≡ before ++ (Call o k a b ∷ after)
+      → (step : ℕ) → step < length (program n (planOf o))
+      → (i : ℕ) × (i < n) × ((x y x′ y′ : List ℕ) → Words x → Words y → Words x′ → Words y′ → OperandsAgree n i x y x′ y′
+      → CallHidden n complexActs before o a b step (complexStart n x y) (complexStart n x′ y′))
+  complex-secret n l m before o k a b after e step h = let q = C .transforms .complex .secret n l m before o k a b after e step h in (q .share, q .below, q .hidden)
+
+  layer-joins : (n N h : ℕ) (numbers factors work tape : List ℕ) → Words numbers → Words factors → Words tape
+      → layerCallAnswer n N h numbers factors work tape .number ≡ 0
+      → joinedWords n (2 * N) (layerNumbers n N h numbers factors work tape) ≡ layerWords N h (joinedWords n (2 * N) numbers) factors
+  layer-joins = C .transforms .layer .joins
+
+  layer-tape : (n N h : ℕ) (factors : List ℕ) → 2 ≤ n → n ≤ 8 → tapeFor n (layerActs N h factors) ≡ N / 2 * (842 * (n * (n - 1)))
+  layer-tape n N h factors l m = let q = C .transforms .layer .tape n N h factors l m in q .0 ∙ q .1
+
+  layer-secret : (n N h : ℕ) (factors : List ℕ) → 2 ≤ n → n ≤ 8 → Words factors → (before : List Act) (o : Operation) (k a b : ℕ) (after : List Act)
+      → layerActs N h factors ≡ before ++ (Call o k a b ∷ after) → (step : ℕ) → step < length (program n (planOf o))
+      → (i : ℕ) × (i < n) × ((numbers numbers′ : List ℕ) → Words numbers → Words numbers′
+      → ((j : ℕ) → j < 2 * N → getD numbers (2 * N * i + j) 0 ≡ getD numbers′ (2 * N * i + j) 0)
+      → CallHidden n (layerActs N h factors) before o a b step (layerStart n N numbers) (layerStart n N numbers′))
+  layer-secret n N h factors l m w before o k a b after e step s =
+      let q = C .transforms .layer .secret n N h factors l m w before o k a b after e step s in (q .share, q .below, q .hidden)
