@@ -1,7 +1,7 @@
 -- Places of a layer's pairs (Powers), laws of slots and acts (Laws), the plain layer (Plainly), what a done call was given (Answered), and the
 -- lent words (Laid). What is proved of calculations made of calls: numbers stay n shares and hand on agreement in a share (Slots), they join
 -- (Joined), each step is secret (Secret), tape words (Tape); and at the lent words of the complex product and a layer (Starts, Holds).
--- What a layer on plain words means (Means).
+-- What a layer on plain words means (Means), and the worked examples (Examples).
 pub mod Powers
 pub mod Laws
 pub mod Laid
@@ -13,4 +13,5 @@ pub mod Tape
 pub mod Starts
 pub mod Holds
 pub mod Means
+pub mod Examples
 mod Plainly

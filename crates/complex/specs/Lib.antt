@@ -1,6 +1,7 @@
 -- Calculations made of calls: acts on numbers in slots, on plain words and on shares (Acts); the complex product and one layer of the
 -- transform as such lists (Complex, Layer); the lent words (Layout); the calls' answers and what they leave (Calls); what is proved (Secrecy,
--- Holds), and what a layer on plain words means (Means). Inner holds names that inner contracts cite.
+-- Holds), and what a layer on plain words means (Means), with worked examples (Examples).
+-- Inner holds names that inner contracts cite.
 pub mod Acts
 pub mod Complex
 pub mod Layer
@@ -9,4 +10,5 @@ pub mod Calls
 pub mod Secrecy
 pub mod Holds
 pub mod Means
+pub mod Examples
 pub mod Inner
