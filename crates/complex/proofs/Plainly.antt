@@ -1,7 +1,7 @@
 -- A layer on plain words: one pair's stores, and the loop over pairs. Rests on Laws and Powers.
 use mathlib.Core.Path.{_≡_, refl, sym, ap, ap₂, _∙_}
 use mathlib.Core.List.{List, map}
-use Prim.Native.Nat.{ℕ, suc, _+_, _*_, _/_, _≤_, _<_}
+use Prim.Native.Nat.{ℕ, _+_, _*_, _/_, _<_}
 use native.Mathlib.Nat.{zero-add}
 use native.Mathlib.Numerals.{add-one}
 use native.Mathlib.Decide.{ℕ-discrete}
@@ -12,7 +12,7 @@ use borrow.Author.Tests.{eq-eqb, ne-eqb}
 use Rattle.masking.specs.Translation.{upFrom}
 use Rattle.masking.proofs.emitted.Rising.{length-from, getD-from}
 use Rattle.binary64.specs.Sum.{sum}
-use Rattle.complex.specs.Acts.{Slots, with, flipped, runPlain}
+use Rattle.complex.specs.Acts.{with, flipped, runPlain}
 use Rattle.complex.specs.Complex.{complexRe, complexIm}
 use Rattle.complex.specs.Layer.{pairActs, pairOf, firstPairs, layerActs}
 use Rattle.complex.specs.Calls.{plainStart, layerWords}

@@ -1,7 +1,7 @@
 -- The sizes of a layer: N and h are powers of two, so blocks of 2h fill N; where a pair and its block's factor lie.
 use mathlib.Core.Path.{_≡_, refl, sym, ap, _∙_}
 use mathlib.Core.Bool.{Bool, true, false, _&&_, _||_}
-use mathlib.Core.List.{List, [], _∷_, map}
+use mathlib.Core.List.{List, _∷_, map}
 use mathlib.Core.Logic.{_⊎_, inl, inr, ⊎-elim}
 use Prim.Native.Nat.{ℕ, zero, suc, _+_, _-_, _*_, _/_, _%_, _^_, _≤_, _<_}
 use native.Mathlib.Nat.{mul-comm, mul-assoc, mul-suc, mod-lt, mul-div-cancel, mul-le-mul-left, div-le-self, div-lt-iff-lt-mul, pow-succ'}
@@ -12,7 +12,7 @@ use lib.Dec.{eqb, leb, ltb}
 use lib.Pow.{pow-pos, pow-mono, pow-add}
 use borrow.Author.Tests.{eqb-true, leb-true, ltb-true}
 use Rattle.masking.specs.Translation.{upFrom}
-use Rattle.complex.specs.Layer.{oneOf, powersOfTwo, isPowerOfTwo, isLayer, blocks, placeOf}
+use Rattle.complex.specs.Layer.{oneOf, isPowerOfTwo, isLayer, blocks, placeOf}
 
 -- a test of two parts, both of which hold
 pub both : (p q : Bool) → p && q ≡ true → (p ≡ true) × (q ≡ true)

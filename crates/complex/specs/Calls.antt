@@ -13,7 +13,7 @@ use Rattle.masking.specs.Foretold.{foretoldTape}
 use Rattle.plans.specs.ProductPlan.{productPlan}
 use Rattle.plans.specs.SumPlan.{sumPlan}
 use Rattle.complex.specs.Acts.{Slots, runPlain, runShares}
-use Rattle.complex.specs.Complex.{operands, complexActs, slotRe, slotIm}
+use Rattle.complex.specs.Complex.{operands, complexActs, slotRe}
 use Rattle.complex.specs.Layer.{isLayer, blocks, layerActs}
 use Rattle.complex.specs.Layout.{numberOf, laidOut}
 

@@ -3,7 +3,6 @@
 use mathlib.Core.Path.{_≡_}
 use mathlib.Core.List.{List, [], _∷_, _++_}
 use Prim.Native.Nat.{ℕ, _+_, _-_, _*_, _/_, _≤_, _<_}
-use lib.Dec.{T}
 use lib.ListN.{length, getD}
 use Rattle.masking.specs.Translation.{program}
 use Rattle.masking.specs.Machine.{Words}
@@ -12,7 +11,7 @@ use Rattle.plans.specs.BuiltIns.{planOf}
 use Rattle.splitting.specs.SplitJoin.{xorAll}
 use Rattle.complex.specs.Acts.{Act, Call, Slots, runPlain, tapeFor, runShares}
 use Rattle.complex.specs.Complex.{complexActs, complexRe, complexIm}
-use Rattle.complex.specs.Layer.{isLayer, layerActs}
+use Rattle.complex.specs.Layer.{layerActs}
 use Rattle.complex.specs.Layout.{numberOf, joinedWords}
 use Rattle.complex.specs.Calls.{complexTape, complexStart, complexCallAnswer, complexResult, layerTape, layerStart, layerCallAnswer, layerNumbers, layerWords}
 use Rattle.complex.specs.Secrecy.{Shared, PutsWords, CallHidden, ActsSecret}

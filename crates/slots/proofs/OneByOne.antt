@@ -8,7 +8,7 @@ use Rattle.complex.specs.Acts.{Act, Load, Store, Slots, tapeFor, runShares}
 use Rattle.complex.specs.Layout.{numberOf}
 use Rattle.complex.proofs.Laws.{shares-append}
 use Rattle.complex.proofs.Laid.{number-size}
-use Rattle.slots.specs.Inner.{slotAt, slotStep, heldOf, written, HeldIn, LentIn, HeldDone, Done}
+use Rattle.slots.specs.Inner.{slotAt, slotStep, heldOf, written, HeldDone, Done}
 use Rattle.slots.proofs.Holding.{held-written, lent-written}
 
 -- acts from place t of the tape on, and acts from the place where they end

@@ -2,10 +2,9 @@
 -- slots. Rests on Holding and on execution's Beside.
 use mathlib.Core.Path.{_≡_, refl, sym, ap, ap₂, _∙_}
 use mathlib.Core.List.{List, [], _∷_, _++_}
-use Prim.Native.Nat.{ℕ, zero, suc, _+_, _-_, _*_, _≤_, _<_}
-use native.Mathlib.Nat.{zero-add}
+use Prim.Native.Nat.{ℕ, suc, _+_, _-_, _*_, _≤_, _<_}
 use native.Mathlib.Omega.{arith}
-use lib.ListN.{length, getD, set, take, drop, replicate, length-append, length-drop, length-replicate}
+use lib.ListN.{length, getD, set, drop, replicate, length-drop}
 use lib.Seq.{getD-drop, getD-append-add}
 use borrow.Rule.Slice.PartMut.{midOf, putMid, mid-len}
 use Rattle.word.specs.Layout.{cell}

@@ -1,23 +1,21 @@
 -- The pairs of a layer on shares: what the loop over them keeps. Rests on Holding, and on complex's Laws, Tape and Laid.
 use mathlib.Core.Path.{_≡_, refl, sym, ap, _∙_}
-use mathlib.Core.Bool.{cond}
-use mathlib.Core.List.{List, []}
+use mathlib.Core.List.{List}
 use Prim.Native.Nat.{ℕ, suc, _+_, _*_, _/_, _≤_, _<_}
 use native.Mathlib.Nat.{mul-le-mul-right}
 use native.Mathlib.Numerals.{add-one}
 use native.Mathlib.Omega.{arith}
-use lib.Dec.{ltb}
-use lib.ListN.{length, getD, drop, replicate, length-replicate, getD-replicate}
+use lib.ListN.{length, drop, replicate, length-replicate, getD-replicate}
 use lib.Seq.{ext-getD}
 use borrow.Author.Tests.{lt-ltb}
 use Rattle.masking.specs.Foretold.{foretoldTape}
 use Rattle.plans.specs.ProductPlan.{productPlan}
 use Rattle.plans.specs.SumPlan.{sumPlan}
 use Rattle.complex.specs.Acts.{Slots, tapeFor, runShares}
-use Rattle.complex.specs.Layer.{pairOf, firstPairs, layerActs}
+use Rattle.complex.specs.Layer.{pairOf, firstPairs}
 use Rattle.complex.specs.Calls.{layerTape, layerStart, layerEnd, layerShares}
 use Rattle.complex.proofs.Laws.{tape-append, shares-append}
-use Rattle.complex.proofs.Tape.{pairs-tape, layer-calls}
+use Rattle.complex.proofs.Tape.{pairs-tape}
 use Rattle.complex.proofs.Laid.{number-size, number-at, laid-out-is}
 use Rattle.slots.specs.Inner.{slotAt, slotStep, heldOf, HeldIn, LentIn, Done}
 

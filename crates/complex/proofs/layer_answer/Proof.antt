@@ -1,12 +1,10 @@
 -- `complex::layer_answer` meets its contract.
-use mathlib.Core.Path.{_≡_, sym, _∙_}
-use mathlib.Core.Bool.{true}
+use mathlib.Core.Path.{sym, _∙_}
 use Prim.Native.Nat.{_*_}
 use native.Mathlib.Nat.{div-le-self}
 use native.Mathlib.Omega.{arith}
 use borrow.Author.Needs.{needs}
 use borrow.Author.Tests.{eq-eqb, ne-eqb, not-false}
-use Rattle.complex.specs.Layer.{isLayer}
 use Rattle.complex.specs.Calls.{plainLayerAnswer}
 use Rattle.complex.proofs.Powers.{sizes}
 use Rattle.complex.proofs.layer_answer.Statement.{statement}

@@ -1,5 +1,5 @@
 -- `complex::product` meets its contract.
-use mathlib.Core.Path.{ap, ap₂, _∙_}
+use mathlib.Core.Path.{ap₂, _∙_}
 use Prim.Native.Nat.{ℕ}
 use borrow.Author.Needs.{needs}
 use Rattle.binary64.specs.Sum.{sum}

@@ -1,5 +1,4 @@
 -- `butterfly::product::multiply_complex` meets its contract.
-use mathlib.Core.List.{List, [], _∷_}
 use native.Mathlib.Omega.{arith}
 use denote.Ref.{now}
 use borrow.Author.Needs.{needs}

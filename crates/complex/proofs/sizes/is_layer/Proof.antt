@@ -1,6 +1,5 @@
 -- `complex::sizes::is_layer` meets its contract.
 use mathlib.Core.Path.{refl, sym, _∙_}
-use native.Mathlib.Omega.{arith}
 use borrow.Author.Needs.{needs}
 use borrow.Author.Tests.{le-leb, lt-leb, not-true, not-false}
 use Rattle.complex.specs.Layer.{isLayer}

@@ -1,5 +1,4 @@
 -- `slots::calls::multiply` meets its contract.
-use native.Mathlib.Omega.{arith}
 use denote.Ref.{now}
 use borrow.Author.Needs.{needs}
 use Rattle.binary64.specs.Operations.{Product}

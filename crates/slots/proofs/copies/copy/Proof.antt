@@ -1,8 +1,7 @@
 -- `slots::copies::copy` meets its contract.
-use mathlib.Core.Path.{refl, sym, _∙_}
+use mathlib.Core.Path.{refl}
 use Prim.Native.Nat.{_-_}
 use native.Mathlib.Omega.{arith}
-use denote.Ref.{now}
 use Rattle.slots.proofs.Written.{Copied, none-copied, one-copied, all-copied}
 use Rattle.slots.proofs.copies.copy.Statement.{statement}
 use Rattle.slots.proofs.copies.copy.Tie as tie

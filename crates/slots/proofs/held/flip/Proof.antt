@@ -1,5 +1,4 @@
 -- `slots::held::flip` meets its contract.
-use native.Mathlib.Omega.{arith}
 use denote.Ref.{now}
 use borrow.Author.Needs.{needs}
 use Rattle.bits.specs.Ops.{xorW}
