@@ -24,6 +24,8 @@ use Rattle.plans.proofs.product.Words as product
 use Rattle.operations.proofs.Masked as operations
 use Rattle.splitting.proofs.SplitJoin as splitting
 use Rattle.complex.proofs.Holds as complex-numbers
+use Rattle.complex.proofs.Means as layer-meaning
+use Rattle.complex.proofs.Examples as worked-complex
 use Rattle.listing.proofs.Whole as listing
 use Rattle.listing.proofs.Example as listed
 use Rattle.lubewon.specs.Claims.{Claims}
@@ -60,9 +62,11 @@ claims =
       masked = operations.masked;
       split-joins = splitting.split-joins;
       transforms = complex-numbers.transforms;
+      layer-means = layer-meaning.layer-means;
       pieces-are-listing = listing.pieces-are-listing;
       example = listed.example;
       word-examples = plain-examples.word-examples;
       translation-examples = examples.translation-examples;
+      complex-examples = worked-complex.complex-examples;
       turn-downs = turned-down.turn-downs;
     }

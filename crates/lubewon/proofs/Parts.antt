@@ -64,7 +64,17 @@ laws h = record { one = h .one; append = h .append; empty = h .empty; size = h .
 
 turn-downs : TurnDowns → TurnDowns
 turn-downs h =
-    record { nine-shares = h .nine-shares; long-plan = h .long-plan; kind-0 = h .kind-0; cells-511 = h .cells-511; place-3 = h .place-3; empty-tape = h .empty-tape }
+    record {
+      nine-shares = h .nine-shares;
+      long-plan = h .long-plan;
+      kind-0 = h .kind-0;
+      cells-511 = h .cells-511;
+      place-3 = h .place-3;
+      empty-tape = h .empty-tape;
+      layer-nine-shares = h .layer-nine-shares;
+      layer-of-three = h .layer-of-three;
+      layer-no-words = h .layer-no-words;
+    }
 
 start : {cells : List ℕ} → Start cells → Start cells
 start h = record { size = h .size; words = h .words }

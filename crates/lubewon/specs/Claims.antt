@@ -23,6 +23,8 @@ use Rattle.plans.specs.ProductRows.{ByRows}
 use Rattle.operations.specs.Masked.{Masked}
 use Rattle.splitting.specs.SplitJoin.{SplitJoins}
 use Rattle.complex.specs.Holds.{Transforms}
+use Rattle.complex.specs.Means.{LayerMeans}
+use Rattle.complex.specs.Examples.{ComplexExamples}
 use Rattle.listing.specs.Sharelist.{ExampleListed}
 use Rattle.listing.specs.Pieces.{PiecesAreListing}
 use Rattle.lubewon.specs.TurnDowns.{TurnDowns}
@@ -63,10 +65,13 @@ pub record Claims : Type 0 where
   pub split-joins : SplitJoins
   -- complex product and layer on shares: joined results, tape words, and the secrecy of each step of each of their calls
   pub transforms : Transforms
+  -- what a layer makes of each pair, on plain words
+  pub layer-means : LayerMeans
   -- the listing in the pieces that `list_piece` writes, and document 01's example of it
   pub pieces-are-listing : PiecesAreListing
   pub example : ExampleListed
-  -- worked examples of words, plans and translations, and of each turn-down
+  -- worked examples of words, plans and translations, of complex numbers, and of each turn-down
   pub word-examples : WordExamples
   pub translation-examples : TranslationExamples
+  pub complex-examples : ComplexExamples
   pub turn-downs : TurnDowns

@@ -1,3 +1,3 @@
--- The root of what is claimed (Claims), and document 01's examples of turn-downs (TurnDowns).
+-- The root of what is claimed (Claims), and examples of turn-downs (TurnDowns).
 pub mod Claims
 pub mod TurnDowns

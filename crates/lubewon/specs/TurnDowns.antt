@@ -1,4 +1,5 @@
--- Document 01's table of turn-downs: its six examples, each at a call that takes the number.
+-- Document 01's table of turn-downs: its six examples, each at a call that takes the number; and document 02's 7, of which it says "it comes
+-- right after 1".
 use mathlib.Core.Path.{_≡_}
 use mathlib.Core.List.{List, [], _∷_}
 use Prim.Native.Nat.{ℕ}
@@ -6,6 +7,7 @@ use lib.ListN.{replicate}
 use Rattle.checks.specs.Answers.{refused, badAt}
 use Rattle.masking.specs.Runs.{standing, runAnswer, stepAnswer}
 use Rattle.translation.specs.Calls.{measureAnswer}
+use Rattle.complex.specs.Calls.{layerAnswer}
 
 -- XOR 2 0 1
 abbrev pub xorWord : ℕ
@@ -24,3 +26,7 @@ pub record TurnDowns : Type 0 where
   pub place-3 : runAnswer (xorWord ∷ xorWord ∷ []) [] (standing (replicate 512 0) 3 0) 1 ≡ refused 5
   -- "90000000, empty tape"
   pub empty-tape : stepAnswer 0x90000000 [] (replicate 512 0) 0 ≡ refused 6
+  -- no lent words, which is 4: at n = 9, then of three numbers, then of two
+  pub layer-nine-shares : layerAnswer 9 3 1 0 0 0 0 ≡ refused 1
+  pub layer-of-three : layerAnswer 2 3 1 0 0 0 0 ≡ refused 7
+  pub layer-no-words : layerAnswer 2 2 1 0 0 0 0 ≡ refused 4
