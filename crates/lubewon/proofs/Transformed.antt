@@ -1,8 +1,9 @@
 -- The claims on complex numbers once more: their records field by field, and at their arguments with every condition written out. What is narrowed,
 -- halved, or asks for more fails here, as in Parts and Statements.
 use mathlib.Core.Path.{_≡_, _∙_}
+use mathlib.Core.Bool.{true}
 use mathlib.Core.List.{List, [], _∷_, _++_}
-use Prim.Native.Nat.{ℕ, suc, _+_, _-_, _*_, _/_, _≤_, _<_}
+use Prim.Native.Nat.{ℕ, suc, _+_, _-_, _*_, _/_, _%_, _≤_, _<_}
 use lib.ListN.{length, getD, take, drop}
 use Rattle.masking.specs.Translation.{program}
 use Rattle.masking.specs.Foretold.{foretoldTape}
@@ -17,11 +18,12 @@ use Rattle.execution.specs.Shares.{placed}
 use Rattle.splitting.specs.SplitJoin.{xorAll}
 use Rattle.complex.specs.Acts.{Act, Call, Slots, flipped, runPlain, tapeFor, runShares}
 use Rattle.complex.specs.Complex.{complexActs}
-use Rattle.complex.specs.Layer.{layerActs}
+use Rattle.complex.specs.Layer.{isLayer, layerActs}
 use Rattle.complex.specs.Layout.{numberOf, joinedWords}
 use Rattle.complex.specs.Calls.{complexStart, complexCallAnswer, complexResult, layerStart, layerCallAnswer, layerNumbers, layerWords}
 use Rattle.complex.specs.Secrecy.{Shared, AgreeIn, PutsWords, CallHidden}
 use Rattle.complex.specs.Holds.{joinedSlots, OperandsAgree, ComplexHolds, LayerHolds, Transforms}
+use Rattle.complex.specs.Means.{PairBecomes, LayerMeans}
 use Rattle.lubewon.specs.Claims.{Claims}
 
 shared : {n : ℕ} {s : Slots (List ℕ)} → Shared n s → Shared n s
@@ -44,6 +46,12 @@ layer-holds h = record { joins = h .joins; tape = h .tape; secret = h .secret }
 
 transforms : Transforms → Transforms
 transforms h = record { acts-join = h .acts-join; acts-secret = h .acts-secret; complex = h .complex; layer = h .layer }
+
+pair-becomes : {N h k : ℕ} {numbers factors after : List ℕ} → PairBecomes N h numbers factors after k → PairBecomes N h numbers factors after k
+pair-becomes h = record { plus-re = h .plus-re; plus-im = h .plus-im; minus-re = h .minus-re; minus-im = h .minus-im }
+
+layer-means : LayerMeans → LayerMeans
+layer-means h = record { size = h .size; pairs = h .pairs; places = h .places }
 
 -- a step of a call, over paired tapes for the whole list: the call's start, the words before its part and its part written out
 module _ (n : ℕ) (acts before : List Act) (o : Operation) (a b step : ℕ) (s s′ : Slots (List ℕ)) (H : CallHidden n acts before o a b step s s′) where
@@ -94,6 +102,15 @@ module _ (C : Claims) where
       → layerCallAnswer n N h numbers factors work tape .number ≡ 0
       → joinedWords n (2 * N) (layerNumbers n N h numbers factors work tape) ≡ layerWords N h (joinedWords n (2 * N) numbers) factors
   layer-joins = C .transforms .layer .joins
+
+  -- u + w·v, its real part, where u is at place p and v at p + h
+  layer-plus : (N h : ℕ) (numbers factors : List ℕ) → isLayer N h ≡ true → (k : ℕ) → k < N / 2
+      → let p = 2 * h * (k / h) + k % h in
+      let re = getD factors (k / h) 0 in
+      let im = getD factors (N / (2 * h) + k / h) 0 in
+      getD (layerWords N h numbers factors) p 0
+      ≡ sum (getD numbers p 0) (sum (product re (getD numbers (p + h) 0)) (flipped (product im (getD numbers (N + (p + h)) 0))))
+  layer-plus N h numbers factors e k l = C .layer-means .pairs N h numbers factors e k l .plus-re
 
   layer-tape : (n N h : ℕ) (factors : List ℕ) → 2 ≤ n → n ≤ 8 → tapeFor n (layerActs N h factors) ≡ N / 2 * (842 * (n * (n - 1)))
   layer-tape n N h factors l m = let q = C .transforms .layer .tape n N h factors l m in q .0 ∙ q .1
