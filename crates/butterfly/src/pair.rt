@@ -66,7 +66,8 @@ fn take(
     load(n, count, distance, p, numbers, work);
 }
 
-// u plus the product, and then u minus it, each real part first.
+// u plus the product, and then u minus it, each real part first. The signs are flipped one by one: side by side, the compiler flips both in one
+// wide word.
 fn plus_minus(n: usize, tape: &[u64], start: usize, work: &mut [u64]) -> usize
     requires { ⌜ (2 ≤ n) × (n ≤ 8) × (length (now work) ≡ 512) × (start + tapeFor n plusMinus ≤ length (now tape)) ⌝ }
     ensures { λ r. ⌜ (r ≡ start + tapeFor n plusMinus) × HeldDone n plusMinus (drop start (now (tape .entry))) (now (work .entry)) (now (work .exit)) ⌝ }
@@ -74,8 +75,8 @@ fn plus_minus(n: usize, tape: &[u64], start: usize, work: &mut [u64]) -> usize
     let t = add(n, PLUS_RE, U_RE, RE, tape, start, work);
     let t = add(n, PLUS_IM, U_IM, IM, tape, t, work);
     flip(n, RE, work);
-    flip(n, IM, work);
     let t = add(n, MINUS_RE, U_RE, RE, tape, t, work);
+    flip(n, IM, work);
     add(n, MINUS_IM, U_IM, IM, tape, t, work)
 }
 

@@ -66,8 +66,8 @@ plusMinus =
     Call Sum slotPlusRe slotURe slotRe
     ∷ Call Sum slotPlusIm slotUIm slotIm
     ∷ Flip slotRe
-    ∷ Flip slotIm
     ∷ Call Sum slotMinusRe slotURe slotRe
+    ∷ Flip slotIm
     ∷ Call Sum slotMinusIm slotUIm slotIm
     ∷ []
 

@@ -3,11 +3,31 @@ ghost use mathlib.Core.Path.{_≡_};
 ghost use mathlib.Core.Bool.{true};
 ghost use Prim.Native.Nat.{_+_, _*_, _<_};
 ghost use lib.ListN.{length};
+ghost use Rattle.binary64.specs.Sum.{sum};
+ghost use Rattle.complex.specs.Acts.{flipped};
 ghost use Rattle.complex.specs.Calls.{layerWords};
 ghost use Rattle.complex.specs.Inner.{PlainDone};
 ghost use Rattle.complex.specs.Layer.{blocks, isLayer, pairActs};
 use crate::difference;
 use crate::product;
+
+// A sum and a difference.
+struct Both {
+    plus: u64,
+    minus: u64,
+}
+
+// u plus w and u minus w. A function of its own, called twice: in the loop over pairs the compiler would make jumps of its choices.
+fn plus_minus(u: u64, w: u64) -> Both
+    ensures { λ r. ⌜ (r .plus ≡ sum u w) × (r .minus ≡ sum u (flipped w)) ⌝ }
+{
+    let plus = binary64::sum(u, w);
+    let minus = difference(u, w);
+    Both {
+        plus: plus,
+        minus: minus,
+    }
+}
 
 // The pair of u at place p with the factor re + im i.
 fn pair(count: usize, distance: usize, re: u64, im: u64, p: usize, numbers: &mut [u64])
@@ -20,12 +40,12 @@ fn pair(count: usize, distance: usize, re: u64, im: u64, p: usize, numbers: &mut
         numbers[p + distance],
         numbers[count + (p + distance)],
     );
-    let u_re = numbers[p];
-    let u_im = numbers[count + p];
-    numbers[p] = binary64::sum(u_re, w.re);
-    numbers[count + p] = binary64::sum(u_im, w.im);
-    numbers[p + distance] = difference(u_re, w.re);
-    numbers[count + (p + distance)] = difference(u_im, w.im);
+    let real = plus_minus(numbers[p], w.re);
+    let imaginary = plus_minus(numbers[count + p], w.im);
+    numbers[p] = real.plus;
+    numbers[count + p] = imaginary.plus;
+    numbers[p + distance] = real.minus;
+    numbers[count + (p + distance)] = imaginary.minus;
 }
 
 // All pairs by rising place, each with its block's factor.

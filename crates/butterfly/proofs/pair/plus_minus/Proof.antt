@@ -22,19 +22,20 @@ returns c =
     let tape = now (g .tape) in
     let pr = c .before .before .before .before .before .before .before .before .before .before .before .before .before .before .before .before .before .before .before .before .before .before .add in
     let pi = c .before .before .before .before .before .before .before .before .before .before .before .before .before .before .before .before .before .before .add2 in
-    let mr = c .before .before .before .before .before .before .add3 in
+    let mr = c .before .before .before .before .before .before .before .before .before .before .add3 in
     let mi = c .before .before .add4 in
     let u = pi .result in
+    let v = mr .result in
     let f = Flip slotRe in
     let h = Flip slotIm in
     let m = Call Sum slotMinusRe slotURe slotRe in
     let l = Call Sum slotMinusIm slotUIm slotIm in (
       omega (arith, pr .ensures .0, pi .ensures .0, mr .ensures .0, mi .ensures .0),
-      held-then n t u tape plus (f ∷ h ∷ m ∷ l ∷ []) (omega (arith, pr .ensures .0, pi .ensures .0))
+      held-then n t u tape plus (f ∷ m ∷ h ∷ l ∷ []) (omega (arith, pr .ensures .0, pi .ensures .0))
           (held-then n t (pr .result) tape (Call Sum slotPlusRe slotURe slotRe ∷ []) (Call Sum slotPlusIm slotUIm slotIm ∷ []) (omega (arith, pr .ensures .0)) (pr .ensures .1) (pi .ensures .1))
-          (held-then n u (mr .result) tape (f ∷ h ∷ m ∷ []) (l ∷ []) (omega (arith, mr .ensures .0))
-          (held-then n u u tape (f ∷ h ∷ []) (m ∷ []) (omega arith)
-          (held-then n u u tape (f ∷ []) (h ∷ []) (omega arith) (c .before .before .before .before .before .before .before .before .before .before .before .before .before .before .flip .ensures) (c .before .before .before .before .before .before .before .before .before .before .flip2 .ensures)) (mr .ensures .1)) (mi .ensures .1)),
+          (held-then n u v tape (f ∷ m ∷ []) (h ∷ l ∷ []) (omega (arith, mr .ensures .0))
+          (held-then n u u tape (f ∷ []) (m ∷ []) (omega arith) (c .before .before .before .before .before .before .before .before .before .before .before .before .before .before .flip .ensures) (mr .ensures .1))
+          (held-then n v v tape (h ∷ []) (l ∷ []) (omega arith) (c .before .before .before .before .before .before .flip2 .ensures) (mi .ensures .1))),
     )
 
 pub plus-minus-spec : {M : Type 1} → statement M

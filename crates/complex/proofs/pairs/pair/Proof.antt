@@ -15,21 +15,25 @@ slice-write-numbers-2 : tie.Need-slice-write-numbers-2
 slice-write-numbers-2 c = simp length-set (omega (arith, c .before .before .before .before .before .before .before .before .pre))
 
 slice-write-numbers-3 : tie.Need-slice-write-numbers-3
-slice-write-numbers-3 c = simp length-set (omega (arith, c .before .before .before .before .before .before .before .before .before .pre))
+slice-write-numbers-3 c = simp length-set (omega (arith, c .before .before .before .before .before .before .before .before .pre))
 
 slice-write-numbers-4 : tie.Need-slice-write-numbers-4
-slice-write-numbers-4 c = simp length-set (omega (arith, c .before .before .before .before .before .before .before .before .before .before .pre))
+slice-write-numbers-4 c = simp length-set (omega (arith, c .before .before .before .before .before .before .before .before .pre))
 
 returns : tie.Need-returns
 returns c =
-    let a = c .before .before .before .before .before .before .before .before .before .before in
+    let a = c .before .before .before .before .before .before .before .before in
     let l = now (a .args .numbers) in
-    let w = c .before .before .before .before .before .before .product .ensures in
+    let u = getD l (a .args .p) 0 in
+    let v = getD l (a .args .count + a .args .p) 0 in
+    let w = c .before .before .before .before .product .ensures in
+    let re = c .before .before .plus-minus .ensures in
+    let im = c .plus-minus2 .ensures in
     pair-done (a .args .count) (a .args .distance) (a .args .re) (a .args .im) (a .args .p) l (a .pre .2) (a .pre .1)
-    (c .before .before .before .sum .ensures ∙ ap (sum _) (w .0))
-    (c .before .before .sum2 .ensures ∙ ap (sum _) (w .1))
-    (c .before .difference .ensures ∙ ap (λ (y : ℕ). sum (getD l (a .args .p) 0) (flipped y)) (w .0))
-    (c .difference2 .ensures ∙ ap (λ (y : ℕ). sum (getD l (a .args .count + a .args .p) 0) (flipped y)) (w .1))
+    (re .0 ∙ ap (sum u) (w .0))
+    (im .0 ∙ ap (sum v) (w .1))
+    (re .1 ∙ ap (λ (y : ℕ). sum u (flipped y)) (w .0))
+    (im .1 ∙ ap (λ (y : ℕ). sum v (flipped y)) (w .1))
 
 pub pair-spec : {M : Type 1} → statement M
 pair-spec =
@@ -45,21 +49,19 @@ pair-spec =
     (λ c κs. search needs)
     (λ c. search needs)
     (λ c. search needs)
+    (λ c κs. search needs)
     (λ c. search needs)
     (λ c. search needs)
     (λ c. search needs)
     (λ c κs. search needs)
     (λ c. search needs)
     (λ c. search needs)
-    (λ c κs. search needs)
     (λ c. search needs)
     (λ c. search needs)
     slice-write-numbers-2
-    (λ c κs. search needs)
     (λ c. search needs)
     (λ c. search needs)
     slice-write-numbers-3
-    (λ c κs. search needs)
     (λ c. search needs)
     (λ c. search needs)
     (λ c. search needs)
