@@ -26,4 +26,20 @@ uint64_t base_nearest(uint64_t a);
 /* (d) A translator. */
 lubewon_answer base_translate(size_t n, const uint32_t *plan, size_t plan_len, uint32_t *out, size_t out_len);
 
+/* (e) Complex product and one layer: on shares by operations of (b), call after call along the tape, told the plans of product and sum; on plain
+ * words by those of (c). Slices have the lengths that they must have. */
+typedef struct {
+    const uint32_t *words;
+    size_t len, units; /* tape words are units times n(n - 1) */
+} base_plan;
+typedef struct {
+    base_plan product, sum;
+} base_plans;
+lubewon_answer base_complex_product_shares(const base_plans *plans, size_t n, const uint64_t *x, const uint64_t *y, uint64_t *result,
+                                           uint64_t *work, const uint64_t *tape, size_t tape_len);
+lubewon_answer base_layer_shares(const base_plans *plans, size_t n, size_t count, size_t distance, uint64_t *numbers, const uint64_t *factors,
+                                 uint64_t *work, const uint64_t *tape, size_t tape_len);
+lubewon_complex base_complex_product(uint64_t a, uint64_t b, uint64_t c, uint64_t d);
+lubewon_answer base_layer(size_t count, size_t distance, uint64_t *numbers, const uint64_t *factors);
+
 #endif

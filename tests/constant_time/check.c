@@ -1,14 +1,15 @@
 /* Constant time, for valgrind's memcheck: shares, cells and tape words, and the operands of the plain operations, are marked undefined, so that
- * memcheck reports every branch and every address that depends on one. The `number` of an answer is tested here, which
- * memcheck would report too if it depended on one. */
+ * memcheck reports every branch and every address that depends on one. So are a layer's factors, which are no secret: nothing goes by them either.
+ * The `number` of an answer is tested here, which memcheck would report too if it depended on one. */
 #include <lubewon.h>
 #include <stdio.h>
 #include <stdlib.h>
 #include <valgrind/memcheck.h>
 
-enum { N = LUBEWON_MOST_SHARES, TAPE = 8192, PROGRAM = 65536 };
+enum { N = LUBEWON_MOST_SHARES, COUNT = 4, TAPE = LUBEWON_LAYER_TAPE(N, COUNT), PROGRAM = 65536 };
 
-static uint64_t x[N], y[N], result[N], work[LUBEWON_WORK], cells[LUBEWON_CELLS], tape[TAPE];
+static uint64_t x[2 * N], y[2 * N], result[2 * N], numbers[2 * COUNT * N], factors[COUNT];
+static uint64_t work[LUBEWON_WORK], cells[LUBEWON_CELLS], tape[TAPE];
 static uint32_t program[PROGRAM];
 
 /* CONST, XOR, AND, NOT, SHL, SHR, SPREAD and ADD, with distinct and with equal registers. */
@@ -20,7 +21,7 @@ enum { PLAN = sizeof plan / sizeof *plan };
 #define SHOWN(array) VALGRIND_MAKE_MEM_DEFINED(array, sizeof(array))
 
 static void all_secret(void) {
-    SECRET(x), SECRET(y), SECRET(result), SECRET(work), SECRET(cells), SECRET(tape);
+    SECRET(x), SECRET(y), SECRET(result), SECRET(numbers), SECRET(factors), SECRET(work), SECRET(cells), SECRET(tape);
 }
 
 static void done(const char *call, size_t n, lubewon_answer answer) {
@@ -68,6 +69,18 @@ static void operations(size_t n) {
     }
 }
 
+/* The complex product, and layers of four numbers at both distances. */
+static void complex_calls(size_t n) {
+    all_secret();
+    done("complex product", n,
+         lubewon_complex_product_shares(n, x, 2 * n, y, 2 * n, result, 2 * n, work, LUBEWON_WORK, tape, TAPE));
+    for (size_t distance = 1; distance < COUNT; distance *= 2) {
+        all_secret();
+        done("layer", n,
+             lubewon_layer_shares(n, COUNT, distance, numbers, 2 * COUNT * n, factors, COUNT / distance, work, LUBEWON_WORK, tape, TAPE));
+    }
+}
+
 /* In a go, in pieces, and step by step. */
 static void share_runs(size_t n) {
     lubewon_answer m = lubewon_translate(n, plan, PLAN, program, PROGRAM);
@@ -104,6 +117,13 @@ static void plain_calls(void) {
     for (size_t k = 0; k < WITH_TWO; k++) result[k] = with_two[k].plain(a, b);
     for (size_t k = 0; k < WITH_ONE; k++) result[WITH_TWO + k] = with_one[k].plain(a);
     all_secret();
+    lubewon_complex z = lubewon_complex_product(x[0], x[1], y[0], y[1]);
+    result[0] = z.re, result[1] = z.im;
+    for (size_t distance = 1; distance < COUNT; distance *= 2) {
+        all_secret();
+        done("plain layer", 1, lubewon_layer(COUNT, distance, numbers, 2 * COUNT, factors, COUNT / distance));
+    }
+    all_secret();
     done("plain run", 1, lubewon_plain_run(plan, PLAN, cells, LUBEWON_REGISTERS));
 }
 
@@ -111,6 +131,7 @@ int main(int argc, char **argv) {
     (void)argv;
     for (size_t n = LUBEWON_LEAST_SHARES; n <= LUBEWON_MOST_SHARES; n++) {
         operations(n);
+        complex_calls(n);
         share_runs(n);
         split_and_join(n);
     }

@@ -117,6 +117,9 @@ def written(name, operands, after):
         return [place(part, width, after) for part in operands]
     if re.match(r"set\w+$", name):
         return [place(last, 1, after)]
+    if re.match(r"bt[crs][wlq]?$", name):
+        fixed = operands[0][:1] == "$" or last[:1] == "%"  # a bit of memory by a register's number may stand anywhere
+        return [place(last, SUFFIX.get(name[-1], 0), after)] if fixed else None
     if "%xmm" in "".join(operands):
         return [place(last, STORED.get(name, 0), after)] if VECTOR.match(name) else None
     if WHOLE.match(name) or CHANGED.match(name):

@@ -11,7 +11,7 @@
 #include <string.h>
 #include <time.h>
 
-enum { CHECKS = 4 };
+enum { CHECKS = 4, FEW = 20000 };
 extern const char __start_sabotage, __stop_sabotage;
 static double stepped, replayed; /* steps per second */
 
@@ -30,7 +30,7 @@ static bool differ(const uint64_t *a, const uint64_t *b) {
 /* The same run by single steps and by replay: every word before and after every step must be the same. */
 static void check(const call_row *call, int group) {
     static uint64_t stepped_before[SLOTS], stepped_after[SLOTS];
-    draw(group);
+    draw(call, group);
     reset(call), step_again(call->call);
     if (!right(call)) fail("the call's result is wrong", 0);
     memcpy(stepped_before, before, slots_used * 8), memcpy(stepped_after, after, slots_used * 8);
@@ -39,13 +39,14 @@ static void check(const call_row *call, int group) {
     if (!right(call) || differ(before, stepped_before) || differ(after, stepped_after)) fail("single steps and replay differ", 0);
 }
 
-/* The path of one run, checked by a few more. */
-static void find_path(const call_row *call) {
+/* The path of one run, checked by a few more; where the runs are few by one, since single steps would take most of the time. */
+static void find_path(const call_row *call, long runs) {
+    int checks = runs < FEW ? 1 : CHECKS;
     double start = seconds();
-    draw(0), reset(call), record(call->call);
+    draw(call, 0), reset(call), record(call->call);
     stepped = (double)steps / (seconds() - start);
     write_replay();
-    for (int k = 0; k < CHECKS; k++) check(call, k % 2);
+    for (int k = 0; k < checks; k++) check(call, (k + 1) % 2);
 }
 
 static void run_all(const call_row *call, long runs) {
@@ -53,7 +54,7 @@ static void run_all(const call_row *call, long runs) {
     start_counts();
     for (long k = 0; k < runs; k++) {
         int group = random_word() & 1;
-        draw(group), reset(call);
+        draw(call, group), reset(call);
         if (!replay()) fail("the path is not the same in all runs", 0);
         if (!right(call)) fail("the call's result is wrong", 0);
         count(group);
@@ -99,7 +100,7 @@ int main(int argc, char **argv) {
     if (argc == 6 && !file) fail("the file cannot be written", 0);
     read_table(argv[1]);
     prepare();
-    find_path(call);
+    find_path(call, runs);
     run_all(call, runs);
     int status = report(call, runs, file);
     if (file && fclose(file)) fail("the file cannot be written", 0);

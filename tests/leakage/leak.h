@@ -7,7 +7,8 @@
 #include <stdint.h>
 #include <stdnoreturn.h>
 
-enum { STEPS = 400000, SLOTS = 800000, TAPE = 6000, PROGRAM = 8192 };
+/* For up to 8 shares; the longest is the layer. */
+enum { STEPS = 2000000, SLOTS = 4000000, TAPE = LUBEWON_LAYER_TAPE(LUBEWON_MOST_SHARES, 2), PROGRAM = 8192, NUMBERS = 4 };
 
 /* Says why on standard error and ends with status 1. */
 noreturn void fail(const char *why, uint64_t at);
@@ -64,20 +65,19 @@ bool two_at_once(size_t s);           /* whether it writes 16 bytes of which bot
 typedef struct {
     const char *name;
     watched call;
-    uint64_t (*plain)(uint64_t x, uint64_t y); /* what the result joins to, or NULL */
-    uint64_t *result;                          /* its share 0; */
-    size_t stride;                             /* the next share is so many words on */
-    bool on_cells;                             /* work has the operands in registers 0 and 1 beforehand */
+    void (*plain)(const uint64_t *operand, uint64_t *wanted); /* what the results join to, or NULL */
+    uint64_t *operand[NUMBERS], *result[NUMBERS];             /* share 0 of each, NULL after the last; */
+    size_t stride;                                            /* the next share is so many words on */
 } call_row;
 extern size_t shares;
-extern uint64_t x[8], y[8], result[8], work[LUBEWON_WORK], tape[TAPE];
+extern uint64_t x[16], y[16], result[16], numbers[32], work[LUBEWON_WORK], tape[TAPE];
 extern lubewon_answer answer;
 const call_row *call_named(const char *name);
 void prepare(void); /* what a call needs once the number of shares is known */
 uint64_t random_word(void);
-void draw(int group);             /* operands, shares and tape of a run */
-void reset(const call_row *call); /* shares as drawn; result, work and stack zeros */
-bool right(const call_row *call); /* done, and the result joins to what it must */
+void draw(const call_row *call, int group); /* operands, shares and tape of a run */
+void reset(const call_row *call);           /* shares as drawn; all other lent words and the stack zeros */
+bool right(const call_row *call);           /* done, and the results join to what they must */
 void sabotage_joins(void), sabotage_and(void), sabotage_register(void), sabotage_vector(void), sabotage_memory(void), sabotage_push(void),
     sabotage_string(void), sabotage_exchange(void), sabotage_branch(void), sabotage_jump(void), sabotage_unknown(void), sabotage_outside(void),
     sabotage_wide(void);

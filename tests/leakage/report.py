@@ -31,15 +31,18 @@ def largest(values):
     return "unbounded" if math.isinf(top) else f"{top:,.1f}"
 
 
+def run_counts(runs):
+    return " or ".join(f"{count:,}" for count in sorted({run.runs for run in runs}))
+
+
 def table(runs):
-    lines = ["| operation | n | instructions | by words | largest t | by transitions | largest t | threshold |", "|---|---|---|---|---|---|---|---|"]
+    lines = ["| operation | n | runs | instructions | by words | largest t | by transitions | largest t | threshold |", "|---|---|---|---|---|---|---|---|---|"]
     for run in runs:
-        cells = [run.operation, run.shares, f"{len(run.address):,}"]
+        cells = [run.operation, run.shares, f"{run.runs:,}", f"{len(run.address):,}"]
         for kind in KINDS:
             cells += [len(run.found(kind)) or "none", largest(run.t[kind])]
         lines.append("| " + " | ".join(str(cell) for cell in cells + [f"{run.threshold:.2f}"]) + " |")
-    counts = " or ".join(f"{count:,}" for count in sorted({run.runs for run in runs}))
-    return "\n".join([f"{counts} runs of each call, every one fixed or random by the toss of a coin.", ""] + lines)
+    return "\n".join([f"{run_counts(runs)} runs of each call, every one fixed or random by the toss of a coin.", ""] + lines)
 
 
 def code(binary):
@@ -104,7 +107,7 @@ def panel(run, column, row):
 
 
 def legend(runs, width):
-    title = f"Largest |t| of each instruction, fixed against random operands, {runs[0].runs:,} runs"
+    title = f"Largest |t| of each instruction, fixed against random operands, {run_counts(runs)} runs"
     parts, x = [f'<text x="{LEFT}" y="22" font-size="15">{title}</text>'], LEFT
     for text, colour, dash in (("words", COLOUR["words"], ""), ("transitions", COLOUR["transitions"], ""), ("threshold", "#c00", "5 3")):
         line = f'<path d="M{x} 40h22" stroke="{colour}" stroke-width="2.6" stroke-dasharray="{dash or "none"}"/>'
