@@ -4,7 +4,7 @@ ghost use mathlib.Core.List.{[]};
 ghost use Prim.Native.Nat.{_+_, _*_, _≤_, _<_};
 ghost use lib.ListN.{drop, length};
 ghost use Rattle.complex.specs.Acts.{tapeFor};
-ghost use Rattle.complex.specs.Layer.{pairActs, plusMinus, putBack, taken};
+ghost use Rattle.complex.specs.Layer.{pairActs, plusMinus, putBack, pairTaken};
 ghost use Rattle.slots.specs.Inner.{Done, HeldDone};
 ghost use Rattle.butterfly.specs.Inner.{numbersLoaded};
 use crate::product::multiply_complex;
@@ -59,7 +59,7 @@ fn take(
     work: &mut [u64],
 )
     requires { ⌜ (2 ≤ n) × (n ≤ 8) × (count ≤ 1024) × (p + distance < count) × (length (now numbers) ≡ 2 * count * n) × (length (now work) ≡ 512) ⌝ }
-    ensures { λ _. ⌜ Done n (2 * count) (taken count distance re im p) [] (now (numbers .entry)) (now (work .entry)) (now (numbers .entry)) (now (work .exit)) ⌝ }
+    ensures { λ _. ⌜ Done n (2 * count) (pairTaken count distance re im p) [] (now (numbers .entry)) (now (work .entry)) (now (numbers .entry)) (now (work .exit)) ⌝ }
 {
     put(n, A, re, work);
     put(n, B, im, work);

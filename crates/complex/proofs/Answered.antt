@@ -10,25 +10,25 @@ use Rattle.word.specs.Layout.{isShareCount}
 use Rattle.word.proofs.Small.{share-range}
 use Rattle.checks.specs.Answers.{refused}
 use Rattle.checks.proofs.Passed.{passed}
-use Rattle.complex.specs.Layer.{isLayer, blocks}
+use Rattle.complex.specs.Layer.{isLayer, blockCount}
 use Rattle.complex.specs.Calls.{complexTape, complexAnswer, layerTape, layerAnswer, plainLayerAnswer}
 use Rattle.complex.proofs.Powers.{both}
 
 pub record PlainReady (N h numbers factors : ℕ) : Type 0 where
   pub layer : isLayer N h ≡ true
   pub numbers-are : numbers ≡ 2 * N
-  pub factors-are : factors ≡ 2 * blocks N h
+  pub factors-are : factors ≡ 2 * blockCount N h
 
 pub plain-ready : (N h numbers factors : ℕ) (a : Answer) → a ≡ plainLayerAnswer N h numbers factors → a .number ≡ 0 → PlainReady N h numbers factors
 unfolding plainLayerAnswer
 plain-ready N h numbers factors a e z =
     let p₇ = passed (not (isLayer N h)) (refused 7) _ (λ e. omega arith) (sym (ap (λ (x : Answer). x .number) e) ∙ z) in
-    let p₄ = passed (not (eqb numbers (2 * N) && eqb factors (2 * blocks N h))) (refused 4) _ (λ e. omega arith) (p₇ .1) in
-    let l = both (eqb numbers (2 * N)) (eqb factors (2 * blocks N h)) (not-false _ (p₄ .0)) in
+    let p₄ = passed (not (eqb numbers (2 * N) && eqb factors (2 * blockCount N h))) (refused 4) _ (λ e. omega arith) (p₇ .1) in
+    let l = both (eqb numbers (2 * N)) (eqb factors (2 * blockCount N h)) (not-false _ (p₄ .0)) in
     record {
       layer = not-false (isLayer N h) (p₇ .0);
       numbers-are = eqb-true numbers (2 * N) (l .0);
-      factors-are = eqb-true factors (2 * blocks N h) (l .1);
+      factors-are = eqb-true factors (2 * blockCount N h) (l .1);
     }
 
 pub record LayerReady (n N h numbers factors work tape : ℕ) : Type 0 where
@@ -36,7 +36,7 @@ pub record LayerReady (n N h numbers factors work tape : ℕ) : Type 0 where
   pub most : n ≤ 8
   pub layer : isLayer N h ≡ true
   pub numbers-are : numbers ≡ 2 * N * n
-  pub factors-are : factors ≡ 2 * blocks N h
+  pub factors-are : factors ≡ 2 * blockCount N h
   pub work-is : work ≡ 512
   pub enough : layerTape n N ≤ tape
 
@@ -45,17 +45,17 @@ unfolding layerAnswer
 layer-ready n N h numbers factors work tape a e z =
     let p₁ = passed (not (isShareCount n)) (refused 1) _ (λ e. omega arith) (sym (ap (λ (x : Answer). x .number) e) ∙ z) in
     let p₇ = passed (not (isLayer N h)) (refused 7) _ (λ e. omega arith) (p₁ .1) in
-    let p₄ = passed (not (eqb numbers (2 * N * n) && (eqb factors (2 * blocks N h) && eqb work 512))) (refused 4) _ (λ e. omega arith) (p₇ .1) in
+    let p₄ = passed (not (eqb numbers (2 * N * n) && (eqb factors (2 * blockCount N h) && eqb work 512))) (refused 4) _ (λ e. omega arith) (p₇ .1) in
     let p₆ = passed (ltb tape (layerTape n N)) (refused 6) _ (λ e. omega arith) (p₄ .1) in
     let s = share-range n (not-false (isShareCount n) (p₁ .0)) in
     let l = both (eqb numbers (2 * N * n)) _ (not-false _ (p₄ .0)) in
-    let m = both (eqb factors (2 * blocks N h)) (eqb work 512) (l .1) in
+    let m = both (eqb factors (2 * blockCount N h)) (eqb work 512) (l .1) in
     record {
       least = s .0;
       most = s .1;
       layer = not-false (isLayer N h) (p₇ .0);
       numbers-are = eqb-true numbers (2 * N * n) (l .0);
-      factors-are = eqb-true factors (2 * blocks N h) (m .0);
+      factors-are = eqb-true factors (2 * blockCount N h) (m .0);
       work-is = eqb-true work 512 (m .1);
       enough = ltb-false tape (layerTape n N) (p₆ .0);
     }

@@ -15,7 +15,7 @@ use Rattle.splitting.specs.SplitJoin.{xorAll}
 use Rattle.complex.specs.Acts.{Act, Call, Slots, runPlain, tapeFor}
 use Rattle.complex.specs.Complex.{complexActs, complexRe, complexIm, slotRe}
 use Rattle.complex.specs.Layer.{layerActs}
-use Rattle.complex.specs.Layout.{numberOf, laidOut, joinedWords}
+use Rattle.complex.specs.Layout.{numberOf, asWords, joinedWords}
 use Rattle.complex.specs.Calls.{complexTape, complexStart, complexEnd, complexShares, layerTape, layerStart, layerEnd, layerShares, plainStart, layerWords}
 use Rattle.complex.specs.Secrecy.{PutsWords, CallHidden}
 use Rattle.complex.specs.Holds.{joinedSlots, ComplexSecret, ComplexHolds, LayerSecret, LayerHolds, Transforms}
@@ -42,7 +42,7 @@ module _ (n : ℕ) (least : 2 ≤ n) (most : n ≤ 8) (x y tape : List ℕ) (wx 
       let S = complex-shared n x y wx wy in
       let E = acts-shared n least most complexActs begun tape tt S wt all in
       let joined = acts-join n least most complexActs tt begun S tape wt all in
-      let at : (j : ℕ) → j < 2 → xorAll (numberOf n 2 j (laidOut n 2 parts)) ≡ runPlain complexActs (joinedSlots begun) .held (slotRe + j) =
+      let at : (j : ℕ) → j < 2 → xorAll (numberOf n 2 j (asWords n 2 parts)) ≡ runPlain complexActs (joinedSlots begun) .held (slotRe + j) =
       λ j lj. ap xorAll (read-back n 2 parts j lj (E .held (slotRe + j) .size)) ∙ ap (λ (s : Slots ℕ). s .held (slotRe + j)) joined in
       ap₂ (λ (r i : ℕ). r ∷ i ∷ []) (at 0 (omega arith)) (at 1 (omega arith))
 
@@ -83,7 +83,7 @@ module _ (n N h : ℕ) (least : 2 ≤ n) (most : n ≤ 8) (numbers factors tape 
       let E = acts-shared n least most acts begun tape puts S wt all in
       let joined = acts-join n least most acts puts begun S tape wt all ∙ ap (runPlain acts) (layer-joined n N numbers) in
       let lent = layerEnd n N h numbers factors tape .lent in
-      mapped-same (λ j. xorAll (numberOf n (2 * N) j (laidOut n (2 * N) lent))) (runPlain acts (plainStart (joinedWords n (2 * N) numbers)) .lent) (2 * N)
+      mapped-same (λ j. xorAll (numberOf n (2 * N) j (asWords n (2 * N) lent))) (runPlain acts (plainStart (joinedWords n (2 * N) numbers)) .lent) (2 * N)
       (λ j lj. ap xorAll (read-back n (2 * N) lent j lj (E .lent j .size)) ∙ ap (λ (s : Slots ℕ). s .lent j) joined)
 
 layer-secret : (n N h : ℕ) (factors : List ℕ) → 2 ≤ n → n ≤ 8 → Words factors → (before : List Act) (o : Operation) (k a b : ℕ) (after : List Act)

@@ -13,7 +13,7 @@ use Rattle.masking.specs.Translation.{upFrom}
 use Rattle.masking.specs.Machine.{Words}
 use Rattle.masking.proofs.emitted.Rising.{length-from, getD-from}
 use Rattle.operations.specs.Masked.{Operand}
-use Rattle.complex.specs.Layout.{numberOf, laidOut}
+use Rattle.complex.specs.Layout.{numberOf, asWords}
 
 -- ---- a word for each of c numbers: how many, which, and that they are words
 pub mapped-size : (f : ℕ → ℕ) (c : ℕ) → length (map f (upFrom 0 c)) ≡ c
@@ -51,13 +51,13 @@ module _ (n S : ℕ) (f : ℕ → List ℕ) where
   abbrev word : ℕ → ℕ
   word k = getD (f (k % S)) (k / S) 0
 
-  pub laid-size : length (laidOut n S f) ≡ S * n
+  pub laid-size : length (asWords n S f) ≡ S * n
   laid-size = mapped-size word (S * n)
 
-  pub laid-words : ((j : ℕ) → Words (f j)) → Words (laidOut n S f)
+  pub laid-words : ((j : ℕ) → Words (f j)) → Words (asWords n S f)
   laid-words w = mapped-words word (S * n) (λ k. w (k % S) (k / S))
 
-  pub laid-at : (i j : ℕ) → i < n → j < S → getD (laidOut n S f) (S * i + j) 0 ≡ getD (f j) i 0
+  pub laid-at : (i j : ℕ) → i < n → j < S → getD (asWords n S f) (S * i + j) 0 ≡ getD (f j) i 0
   laid-at i j li lj =
       let up : S * suc i ≤ S * n = mul-le-mul-left S li in
       let inside : S * i + j < S * n = omega (arith, mul-suc S i) in
@@ -66,18 +66,18 @@ module _ (n S : ℕ) (f : ℕ → List ℕ) where
       mapped-at word (S * n) (S * i + j) inside ∙ ap₂ (λ (j i : ℕ). getD (f j) i 0) at share
 
 -- a number of n shares reads back as it was laid out
-pub read-back : (n S : ℕ) (f : ℕ → List ℕ) (j : ℕ) → j < S → length (f j) ≡ n → numberOf n S j (laidOut n S f) ≡ f j
+pub read-back : (n S : ℕ) (f : ℕ → List ℕ) (j : ℕ) → j < S → length (f j) ≡ n → numberOf n S j (asWords n S f) ≡ f j
 read-back n S f j lj e =
-    let size = number-size n S j (laidOut n S f) in
-    ext-getD 0 (numberOf n S j (laidOut n S f)) (f j) (size ∙ sym e)
-    (λ i li. number-at n S j (laidOut n S f) i (omega arith) ∙ laid-at n S f i j (omega arith) lj)
+    let size = number-size n S j (asWords n S f) in
+    ext-getD 0 (numberOf n S j (asWords n S f)) (f j) (size ∙ sym e)
+    (λ i li. number-at n S j (asWords n S f) i (omega arith) ∙ laid-at n S f i j (omega arith) lj)
 
 -- words whose S numbers are known are these laid out
-pub laid-out-is : (n S : ℕ) (l : List ℕ) (f : ℕ → List ℕ) → length l ≡ S * n → ((j : ℕ) → j < S → numberOf n S j l ≡ f j) → l ≡ laidOut n S f
-laid-out-is n zero l f e h = ext-getD 0 l (laidOut n 0 f) (e ∙ sym (laid-size n 0 f)) (λ k lk. absurd (omega arith))
+pub laid-out-is : (n S : ℕ) (l : List ℕ) (f : ℕ → List ℕ) → length l ≡ S * n → ((j : ℕ) → j < S → numberOf n S j l ≡ f j) → l ≡ asWords n S f
+laid-out-is n zero l f e h = ext-getD 0 l (asWords n 0 f) (e ∙ sym (laid-size n 0 f)) (λ k lk. absurd (omega arith))
 laid-out-is n (suc s) l f e h =
     let S = suc s in
-    ext-getD 0 l (laidOut n S f) (e ∙ sym (laid-size n S f))
+    ext-getD 0 l (asWords n S f) (e ∙ sym (laid-size n S f))
     (λ k lk.
     let some : 0 < S = omega arith in
     let lj : k % S < S = mod-lt k some in

@@ -12,7 +12,7 @@ use borrow.Author.Tests.{eq-eqb, ne-eqb}
 use Rattle.binary64.specs.Sum.{sum}
 use Rattle.complex.specs.Acts.{Slots, flipped, runPlain}
 use Rattle.complex.specs.Complex.{complexRe, complexIm}
-use Rattle.complex.specs.Layer.{blocks, placeOf, pairActs, pairOf, firstPairs, layerActs}
+use Rattle.complex.specs.Layer.{blockCount, placeOf, pairActs, pairOf, firstPairs, layerActs}
 use Rattle.complex.specs.Calls.{plainStart, layerWords}
 use Rattle.complex.specs.Means.{PairBecomes, LayerMeans}
 use Rattle.complex.proofs.Laws.{plain-append}
@@ -74,9 +74,9 @@ module _ (N h : ℕ) (S : Sizes N h) (j : ℕ) (inside : j < N) where
 
   in-block : (r : ℕ) → r < h → (h * q + r < N / 2) × (placeOf h (h * q + r) ≡ 2 * h * q + r)
   in-block r l =
-      let block : q < blocks N h = div-lt-iff-lt-mul {k = 2 * h} {x = j} {y = blocks N h} (omega arith) .1 (omega (arith, S .filled)) in
-      let up : h * suc q ≤ h * blocks N h = mul-le-mul-left h block in
-      (omega (arith, S .halves, mul-suc h q, mul-comm h (blocks N h)), ap₂ (λ (x y : ℕ). 2 * h * x + y) (quotient h q r l) (rest h q r l))
+      let block : q < blockCount N h = div-lt-iff-lt-mul {k = 2 * h} {x = j} {y = blockCount N h} (omega arith) .1 (omega (arith, S .filled)) in
+      let up : h * suc q ≤ h * blockCount N h = mul-le-mul-left h block in
+      (omega (arith, S .halves, mul-suc h q, mul-comm h (blockCount N h)), ap₂ (λ (x y : ℕ). 2 * h * x + y) (quotient h q r l) (rest h q r l))
 
   at-pair : Dec (t < h) → AtPair
   at-pair (yes l) =
@@ -128,7 +128,7 @@ module _ (N h : ℕ) (S : Sizes N h) (numbers factors : List ℕ) where
       let P = pair-placed N h k S less in
       let O = owns N h k P in
       turn k j
-      ∙ elsewhere N h (getD factors (k / h) 0) (getD factors (blocks N h + k / h) 0) (placeOf h k) (S .some) (P .inside) (after k) j
+      ∙ elsewhere N h (getD factors (k / h) 0) (getD factors (blockCount N h + k / h) 0) (placeOf h k) (S .some) (P .inside) (after k) j
       (λ e. a (ap (owner N h) e ∙ O .u-re)) (λ e. a (ap (owner N h) e ∙ O .u-im)) (λ e. a (ap (owner N h) e ∙ O .v-re)) (λ e. a (ap (owner N h) e ∙ O .v-im))
 
   -- up to its own pair a number is as it was lent; from then on, as its own pair left it
@@ -156,7 +156,7 @@ module _ (N h : ℕ) (S : Sizes N h) (numbers factors : List ℕ) where
     becomes =
         let p = placeOf h k in
         let re = getD factors (k / h) 0 in
-        let im = getD factors (blocks N h + k / h) 0 in
+        let im = getD factors (blockCount N h + k / h) 0 in
         let P = pair-placed N h k S less in
         let O = owns N h k P in
         let inside : p + h < N = P .inside in

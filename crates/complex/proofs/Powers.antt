@@ -12,7 +12,7 @@ use lib.Dec.{eqb, leb, ltb}
 use lib.Pow.{pow-pos, pow-mono, pow-add}
 use borrow.Author.Tests.{eqb-true, leb-true, ltb-true}
 use Rattle.masking.specs.Translation.{upFrom}
-use Rattle.complex.specs.Layer.{oneOf, isPowerOfTwo, isLayer, blocks, placeOf}
+use Rattle.complex.specs.Layer.{oneOf, isPowerOfTwo, isLayer, blockCount, placeOf}
 
 -- a test of two parts, both of which hold
 pub both : (p q : Bool) → p && q ≡ true → (p ≡ true) × (q ≡ true)
@@ -52,8 +52,8 @@ pub record Sizes (N h : ℕ) : Type 0 where
   pub some : 1 ≤ h
   pub below : h < N
   pub half : 2 * (N / 2) ≡ N
-  pub filled : blocks N h * (2 * h) ≡ N
-  pub halves : blocks N h * h ≡ N / 2
+  pub filled : blockCount N h * (2 * h) ≡ N
+  pub halves : blockCount N h * h ≡ N / 2
 
 of-powers : (N h a b : ℕ) → N ≡ 2 ^ a → h ≡ 2 ^ b → 2 ≤ N → N ≤ 1024 → h < N → Sizes N h
 of-powers N h a b eN eh least most below = by (decLt b a)
@@ -66,7 +66,7 @@ of-powers N h a b eN eh least most below = by (decLt b a)
         let e : m * (2 * h) ≡ N =
         ap (λ (x : ℕ). m * (2 * x)) eh ∙ ap (λ (x : ℕ). m * x) (sym (pow-succ' 2 b)) ∙ sym (pow-add 2 (a - suc b) (suc b)) ∙ ap (λ (x : ℕ). 2 ^ x) split ∙ sym eN in
         let some : 0 < h = rw eh (pow-pos b) in
-        let q : blocks N h ≡ m = ap (λ (x : ℕ). x / (2 * h)) (sym e) ∙ mul-div-cancel m {n = 2 * h} (omega arith) in
+        let q : blockCount N h ≡ m = ap (λ (x : ℕ). x / (2 * h)) (sym e) ∙ mul-div-cancel m {n = 2 * h} (omega arith) in
         let t : m * (2 * h) ≡ 2 * (m * h) = sym (mul-assoc m 2 h) ∙ ap (λ (x : ℕ). x * h) (mul-comm m 2) ∙ mul-assoc 2 m h in
         let half : N / 2 ≡ m * h = omega arith in
         record {
@@ -93,26 +93,26 @@ sizes N h e =
 -- where pair k lies
 pub record Placed (N h k : ℕ) : Type 0 where
   pub inside : placeOf h k + h < N
-  pub block : k / h < blocks N h
+  pub block : k / h < blockCount N h
   pub place : placeOf h k ≡ 2 * h * (k / h) + k % h
   pub rest : k % h < h
-  pub few : blocks N h ≤ N
+  pub few : blockCount N h ≤ N
   pub start : 2 * h * (k / h) ≤ N
 
 pub pair-placed : (N h k : ℕ) → Sizes N h → k < N / 2 → Placed N h k
 pair-placed N h k S l =
     let q = k / h in
     let some : 0 < h = S .some in
-    let less : k < blocks N h * h = omega (arith, S .halves) in
-    let block : q < blocks N h = div-lt-iff-lt-mul {k = h} {x = k} {y = blocks N h} some .1 less in
-    let up : (2 * h) * suc q ≤ (2 * h) * blocks N h = mul-le-mul-left (2 * h) block in
+    let less : k < blockCount N h * h = omega (arith, S .halves) in
+    let block : q < blockCount N h = div-lt-iff-lt-mul {k = h} {x = k} {y = blockCount N h} some .1 less in
+    let up : (2 * h) * suc q ≤ (2 * h) * blockCount N h = mul-le-mul-left (2 * h) block in
     let down : (2 * h) * suc q ≡ 2 * h * q + 2 * h = mul-suc (2 * h) q in
     let r : k % h < h = mod-lt k some in
     record {
-      inside = omega (arith, S .filled, mul-comm (blocks N h) (2 * h));
+      inside = omega (arith, S .filled, mul-comm (blockCount N h) (2 * h));
       block = block;
       place = refl;
       rest = r;
       few = div-le-self N (2 * h);
-      start = omega (arith, S .filled, mul-comm (blocks N h) (2 * h));
+      start = omega (arith, S .filled, mul-comm (blockCount N h) (2 * h));
     }

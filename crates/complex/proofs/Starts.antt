@@ -13,7 +13,7 @@ use Rattle.splitting.specs.SplitJoin.{xorAll}
 use Rattle.operations.specs.Masked.{Operand}
 use Rattle.complex.specs.Acts.{Act, Put, Flip, Load, Store, Call, with}
 use Rattle.complex.specs.Complex.{slotA, slotB, slotC, slotD}
-use Rattle.complex.specs.Layer.{blocks, pairOf, firstPairs, layerActs}
+use Rattle.complex.specs.Layer.{blockCount, pairOf, firstPairs, layerActs}
 use Rattle.complex.specs.Layout.{numberOf, joinedWords}
 use Rattle.complex.specs.Calls.{complexStart, layerStart, plainStart}
 use Rattle.complex.specs.Secrecy.{Shared, AgreeIn, PutsWords}
@@ -98,4 +98,4 @@ layer-puts N h factors w = first (N / 2)
   where
     first : (k : ℕ) → PutsWords (firstPairs N h factors k)
     first zero = tt
-    first (suc k) = puts-append (firstPairs N h factors k) (pairOf N h factors k) (first k) (w (k / h), (w (blocks N h + k / h), tt))
+    first (suc k) = puts-append (firstPairs N h factors k) (pairOf N h factors k) (first k) (w (k / h), (w (blockCount N h + k / h), tt))

@@ -14,8 +14,8 @@ use Rattle.plans.specs.ProductPlan.{productPlan}
 use Rattle.plans.specs.SumPlan.{sumPlan}
 use Rattle.complex.specs.Acts.{Slots, runPlain, runShares}
 use Rattle.complex.specs.Complex.{operands, complexActs, slotRe}
-use Rattle.complex.specs.Layer.{isLayer, blocks, layerActs}
-use Rattle.complex.specs.Layout.{numberOf, laidOut}
+use Rattle.complex.specs.Layer.{isLayer, blockCount, layerActs}
+use Rattle.complex.specs.Layout.{numberOf, asWords}
 
 -- ---- the complex product on n shares
 
@@ -39,7 +39,7 @@ complexEnd n x y tape = runShares n complexActs tape (complexStart n x y)
 
 -- the result's words: real part, imaginary part
 unfoldable pub complexShares : ℕ → List ℕ → List ℕ → List ℕ → List ℕ
-complexShares n x y tape = laidOut n 2 (λ j. complexEnd n x y tape .held (slotRe + j))
+complexShares n x y tape = asWords n 2 (λ j. complexEnd n x y tape .held (slotRe + j))
 
 module _ (n : ℕ) (x y result work tape : List ℕ) where
   abbrev pub complexCallAnswer : Answer
@@ -61,7 +61,7 @@ unfoldable pub layerAnswer : ℕ → ℕ → ℕ → ℕ → ℕ → ℕ → ℕ
 layerAnswer n N h numbers factors work tape =
     given (not (isShareCount n)) (refused 1)
     (given (not (isLayer N h)) (refused 7)
-    (given (not (eqb numbers (2 * N * n) && (eqb factors (2 * blocks N h) && eqb work 512))) (refused 4)
+    (given (not (eqb numbers (2 * N * n) && (eqb factors (2 * blockCount N h) && eqb work 512))) (refused 4)
     (given (ltb tape (layerTape n N)) (refused 6)
     (done 0 (layerTape n N)))))
 
@@ -77,7 +77,7 @@ abbrev pub layerEnd : ℕ → ℕ → ℕ → List ℕ → List ℕ → List ℕ
 layerEnd n N h numbers factors tape = runShares n (layerActs N h factors) tape (layerStart n N numbers)
 
 unfoldable pub layerShares : ℕ → ℕ → ℕ → List ℕ → List ℕ → List ℕ → List ℕ
-layerShares n N h numbers factors tape = laidOut n (2 * N) (layerEnd n N h numbers factors tape .lent)
+layerShares n N h numbers factors tape = asWords n (2 * N) (layerEnd n N h numbers factors tape .lent)
 
 module _ (n N h : ℕ) (numbers factors work tape : List ℕ) where
   abbrev pub layerCallAnswer : Answer
@@ -94,7 +94,7 @@ module _ (n N h : ℕ) (numbers factors work tape : List ℕ) where
 unfoldable pub plainLayerAnswer : ℕ → ℕ → ℕ → ℕ → Answer
 plainLayerAnswer N h numbers factors =
     given (not (isLayer N h)) (refused 7)
-    (given (not (eqb numbers (2 * N) && eqb factors (2 * blocks N h))) (refused 4)
+    (given (not (eqb numbers (2 * N) && eqb factors (2 * blockCount N h))) (refused 4)
     (done 0 0))
 
 abbrev pub plainStart : List ℕ → Slots ℕ

@@ -7,14 +7,14 @@ use Rattle.masking.specs.Translation.{upFrom}
 use Rattle.complex.specs.Acts.{plainShares, flippedFirst}
 use Rattle.complex.specs.Complex.{complexRe, complexIm}
 use Rattle.complex.specs.Layer.{isLayer, pairActs, placeOf, pairOf}
-use Rattle.complex.specs.Layout.{numberOf, laidOut}
+use Rattle.complex.specs.Layout.{numberOf, asWords}
 use Rattle.complex.specs.Calls.{layerWords}
 
 pub record ComplexExamples : Type 0 where
   -- N = 2 on 2 shares, words 0 to 7: "real part j of share i is word 2Ni + j, its imaginary part N words later"
   pub real-1 : numberOf 2 4 1 (upFrom 0 8) ≡ 1 ∷ 5 ∷ []
   pub imaginary-1 : numberOf 2 4 3 (upFrom 0 8) ≡ 3 ∷ 7 ∷ []
-  pub laid-back : laidOut 2 4 (λ j. numberOf 2 4 j (upFrom 0 8)) ≡ upFrom 0 8
+  pub laid-back : asWords 2 4 (λ j. numberOf 2 4 j (upFrom 0 8)) ≡ upFrom 0 8
   -- N = 8, h = 2: pairs at places 0, 1, 4, 5; the pair at 4 has the second block's factor
   pub places : map (placeOf 2) (upFrom 0 4) ≡ 0 ∷ 1 ∷ 4 ∷ 5 ∷ []
   pub second-block : pairOf 8 2 (10 ∷ 11 ∷ 12 ∷ 13 ∷ []) 2 ≡ pairActs 8 2 11 13 4

@@ -50,8 +50,8 @@ abbrev pub slotMinusIm : ℕ
 slotMinusIm = 15
 
 -- "w as a + bi", v as c + di; of lent numbers the real parts are 0 to N − 1, the imaginary parts N later
-abbrev pub taken : ℕ → ℕ → ℕ → ℕ → ℕ → List Act
-taken N h re im p =
+abbrev pub pairTaken : ℕ → ℕ → ℕ → ℕ → ℕ → List Act
+pairTaken N h re im p =
     Put slotA re
     ∷ Put slotB im
     ∷ Load slotC (p + h)
@@ -77,18 +77,18 @@ putBack N h p = Store p slotPlusRe ∷ Store (N + p) slotPlusIm ∷ Store (p + h
 
 -- the pair of u at place p, with the factor re + im·i
 abbrev pub pairActs : ℕ → ℕ → ℕ → ℕ → ℕ → List Act
-pairActs N h re im p = taken N h re im p ++ (complexActs ++ (plusMinus ++ putBack N h p))
+pairActs N h re im p = pairTaken N h re im p ++ (complexActs ++ (plusMinus ++ putBack N h p))
 
 -- pair k by rising place: of block k / h, where its u is k % h from the block's start, 2h for each block before
 abbrev pub placeOf : ℕ → ℕ → ℕ
 placeOf h k = 2 * h * (k / h) + k % h
 
-abbrev pub blocks : ℕ → ℕ → ℕ
-blocks N h = N / (2 * h)
+abbrev pub blockCount : ℕ → ℕ → ℕ
+blockCount N h = N / (2 * h)
 
 -- pair k with the factor of its block
 abbrev pub pairOf : ℕ → ℕ → List ℕ → ℕ → List Act
-pairOf N h factors k = pairActs N h (getD factors (k / h) 0) (getD factors (blocks N h + k / h) 0) (placeOf h k)
+pairOf N h factors k = pairActs N h (getD factors (k / h) 0) (getD factors (blockCount N h + k / h) 0) (placeOf h k)
 
 -- the first k pairs, and all
 abbrev pub firstPairs : ℕ → ℕ → List ℕ → ℕ → List Act

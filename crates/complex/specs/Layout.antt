@@ -11,8 +11,8 @@ abbrev pub numberOf : ℕ → ℕ → ℕ → List ℕ → List ℕ
 numberOf n S j words = map (λ i. getD words (S * i + j) 0) (shares n)
 
 -- S numbers of n shares each, as such words
-abbrev pub laidOut : ℕ → ℕ → (ℕ → List ℕ) → List ℕ
-laidOut n S number = map (λ k. getD (number (k % S)) (k / S) 0) (upFrom 0 (S * n))
+abbrev pub asWords : ℕ → ℕ → (ℕ → List ℕ) → List ℕ
+asWords n S number = map (λ k. getD (number (k % S)) (k / S) 0) (upFrom 0 (S * n))
 
 -- the S numbers joined
 abbrev pub joinedWords : ℕ → ℕ → List ℕ → List ℕ

@@ -9,7 +9,7 @@ use lib.ListN.{length, getD}
 use Rattle.binary64.specs.Sum.{sum}
 use Rattle.complex.specs.Acts.{flipped}
 use Rattle.complex.specs.Complex.{complexRe, complexIm}
-use Rattle.complex.specs.Layer.{isLayer, placeOf, blocks}
+use Rattle.complex.specs.Layer.{isLayer, placeOf, blockCount}
 use Rattle.complex.specs.Calls.{layerWords}
 
 -- The pair of number k, by rising place, among numbers and after.
@@ -39,7 +39,7 @@ module _ (N h : ℕ) (numbers factors after : List ℕ) (k : ℕ) where
   wRe = getD factors (k / h) 0
 
   abbrev pub wIm : ℕ
-  wIm = getD factors (blocks N h + k / h) 0
+  wIm = getD factors (blockCount N h + k / h) 0
 
   -- w·v, "with w as a + bi"
   abbrev pub wvRe : ℕ

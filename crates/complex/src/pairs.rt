@@ -7,7 +7,7 @@ ghost use Rattle.binary64.specs.Sum.{sum};
 ghost use Rattle.complex.specs.Acts.{flipped};
 ghost use Rattle.complex.specs.Calls.{layerWords};
 ghost use Rattle.complex.specs.Inner.{PlainDone};
-ghost use Rattle.complex.specs.Layer.{blocks, isLayer, pairActs};
+ghost use Rattle.complex.specs.Layer.{blockCount, isLayer, pairActs};
 use crate::difference;
 use crate::product;
 
@@ -50,7 +50,7 @@ fn pair(count: usize, distance: usize, re: u64, im: u64, p: usize, numbers: &mut
 
 // All pairs by rising place, each with its block's factor.
 pub(crate) fn all_pairs(count: usize, distance: usize, numbers: &mut [u64], factors: &[u64])
-    requires { ⌜ (isLayer count distance ≡ true) × (length (now numbers) ≡ 2 * count) × (length (now factors) ≡ 2 * blocks count distance) ⌝ }
+    requires { ⌜ (isLayer count distance ≡ true) × (length (now numbers) ≡ 2 * count) × (length (now factors) ≡ 2 * blockCount count distance) ⌝ }
     ensures { λ _. ⌜ now (numbers .exit) ≡ layerWords count distance (now (numbers .entry)) (now (factors .entry)) ⌝ }
 {
     let blocks = count / (2 * distance);

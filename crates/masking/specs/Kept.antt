@@ -13,5 +13,5 @@ pub record EndsAgree (n : ℕ) (plan : List ℕ) (i : ℕ) (l l′ : List ℕ) :
   pub agree : (tape : List ℕ) → Tape (foretoldTape n plan) tape → Agree i (exec (program n plan) tape l) (exec (program n plan) (pairing .there tape) l′)
 
 -- starts that agree in a share: so do the ends of paired runs, in that share
-abbrev pub KeepsShares : ℕ → List ℕ → Type 0
-KeepsShares n plan = (i : ℕ) → i < n → (l l′ : List ℕ) → Start l → Start l′ → Agree i l l′ → EndsAgree n plan i l l′
+abbrev pub KeepsAgreement : ℕ → List ℕ → Type 0
+KeepsAgreement n plan = (i : ℕ) → i < n → (l l′ : List ℕ) → Start l → Start l′ → Agree i l l′ → EndsAgree n plan i l l′

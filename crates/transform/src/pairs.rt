@@ -4,7 +4,7 @@ ghost use mathlib.Core.Bool.{true};
 ghost use Prim.Native.Nat.{_*_, _≤_};
 ghost use lib.ListN.{length, replicate};
 ghost use Rattle.complex.specs.Calls.{layerShares, layerTape};
-ghost use Rattle.complex.specs.Layer.{blocks, isLayer};
+ghost use Rattle.complex.specs.Layer.{blockCount, isLayer};
 use butterfly::pair::pair;
 use execution::work::clear;
 use word::step_word::StepWord;
@@ -19,7 +19,7 @@ fn all_pairs(
     work: &mut [u64],
     tape: &[u64],
 )
-    requires { ⌜ (2 ≤ n) × (n ≤ 8) × (isLayer count distance ≡ true) × (length (now numbers) ≡ 2 * count * n) × (length (now factors) ≡ 2 * blocks count distance) × (now work ≡ replicate 512 0) × (layerTape n count ≤ length (now tape)) ⌝ }
+    requires { ⌜ (2 ≤ n) × (n ≤ 8) × (isLayer count distance ≡ true) × (length (now numbers) ≡ 2 * count * n) × (length (now factors) ≡ 2 * blockCount count distance) × (now work ≡ replicate 512 0) × (layerTape n count ≤ length (now tape)) ⌝ }
     ensures { λ _. ⌜ now (numbers .exit) ≡ layerShares n count distance (now (numbers .entry)) (now (factors .entry)) (now (tape .entry)) ⌝ }
 {
     let blocks = count / (2 * distance);
@@ -45,7 +45,7 @@ pub(crate) fn layer_done(
     work: &mut [u64],
     tape: &[u64],
 )
-    requires { ⌜ (2 ≤ n) × (n ≤ 8) × (isLayer count distance ≡ true) × (length (now numbers) ≡ 2 * count * n) × (length (now factors) ≡ 2 * blocks count distance) × (length (now work) ≡ 512) × (layerTape n count ≤ length (now tape)) ⌝ }
+    requires { ⌜ (2 ≤ n) × (n ≤ 8) × (isLayer count distance ≡ true) × (length (now numbers) ≡ 2 * count * n) × (length (now factors) ≡ 2 * blockCount count distance) × (length (now work) ≡ 512) × (layerTape n count ≤ length (now tape)) ⌝ }
     ensures { λ _. ⌜ (now (numbers .exit) ≡ layerShares n count distance (now (numbers .entry)) (now (factors .entry)) (now (tape .entry))) × (now (work .exit) ≡ replicate (length (now (work .entry))) 0) ⌝ }
 {
     clear(work, StepWord::REGISTERS * n);

@@ -7,7 +7,7 @@ use denote.Ref.{now}
 use lib.ListN.{drop}
 use borrow.Author.Needs.{needs}
 use Rattle.complex.specs.Complex.{complexActs}
-use Rattle.complex.specs.Layer.{taken, plusMinus, putBack}
+use Rattle.complex.specs.Layer.{pairTaken, plusMinus, putBack}
 use Rattle.slots.proofs.OneByOne.{done-then, held-done}
 use Rattle.butterfly.proofs.pair.pair.Statement.{statement}
 use Rattle.butterfly.proofs.pair.pair.Tie as tie
@@ -24,7 +24,7 @@ returns c =
     let sums = c .before .before .before .before .before .before .before .plus-minus in
     let back = putBack (g .count) (g .distance) (g .p) in (
       omega (arith, product .ensures .0, sums .ensures .0),
-      done-then n t t tape (taken (g .count) (g .distance) (g .re) (g .im) (g .p)) (complexActs ++ (plusMinus ++ back)) (omega arith)
+      done-then n t t tape (pairTaken (g .count) (g .distance) (g .re) (g .im) (g .p)) (complexActs ++ (plusMinus ++ back)) (omega arith)
           (c .before .before .before .before .before .before .before .before .before .before .before .before .before .before .before .take .ensures)
           (done-then n t (product .result) tape complexActs (plusMinus ++ back) (product .ensures .0)
           (held-done n S complexActs (drop t tape) l (λ s. refl) (product .ensures .1))
