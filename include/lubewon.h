@@ -184,7 +184,7 @@ lubewon_answer lubewon_nearest_in_place(uint64_t *x, size_t x_len, uint64_t *wor
  *
  * The shares are those of the single calls one after another on the tape: the products ac, bd, ad and bc, then the sum of ac and -bd, the real
  * part, and that of ad and bc; -bd is bd with the sign bit of share 0 flipped. Yet it is one call: that the word of a single step says no more than
- * one share of each part of x and y does is proved of every step of the six, over the whole tape. */
+ * one share of each part of x and y does is proved of every step of the six calls' share programs, over the whole tape. */
 lubewon_answer lubewon_complex_product_shares(size_t n, const uint64_t *x, size_t x_len, const uint64_t *y, size_t y_len, uint64_t *result,
                                               size_t result_len, uint64_t *work, size_t work_len, const uint64_t *tape, size_t tape_len);
 
@@ -214,12 +214,13 @@ lubewon_answer lubewon_complex_product_shares(size_t n, const uint64_t *x, size_
  *
  * The shares are those of the calls one after another on the tape, pairs by rising p: the complex product of w, as a + bi and a plain operand, and
  * v; then the sums of u and w v; then those of u and -w v, with the sign bit of share 0 flipped; each real part first. Yet it is one call, and what
- * is proved of secrecy is proved of every step of all its pairs, over the whole tape.
+ * is proved of secrecy is proved of every step of the share programs of all its calls, over the whole tape.
  *
  * A transform is one call for each layer over the same numbers, h = N/2, N/4, .., 1, the tape of each behind that of the one before. A block of 2h is
  * then a polynomial modulo some x^2h - w^2, and is parted into those modulo x^h - w and x^h + w. (By rising h, with one factor for a whole block, no
  * factors make a Fourier transform from N = 4 on.) For FALCON share i of a polynomial's coefficient j, j from 0 to 2N - 1, is word 2Ni + j, and w^2
- * is the imaginary unit at first; tests/c/fft.c has all factors.
+ * is the imaginary unit at first; the outcome is in bit-reversed order. tests/c/fft.c has all factors. That layers in a row are such a transform
+ * is tested there, and not proved.
  *
  *   for (size_t h = N / 2, at = 0; h >= 1; h /= 2) {
  *       lubewon_answer a = lubewon_layer_shares(n, N, h, numbers, 2 * N * n, factors_for(h), N / h, work, LUBEWON_WORK, tape + at, tape_len - at);
@@ -228,8 +229,8 @@ lubewon_answer lubewon_complex_product_shares(size_t n, const uint64_t *x, size_
  *   }
  *
  * A call's tape is lent as a whole: 215,552 words for N = 256 on two shares. Where that is too much, copy each pair, by rising p, to 4n words and
- * back, and call the layer on it with N = 2, h = 1 and its factor: 1,684 words at a time on two shares. The shares are the same over the same tape
- * words; what is proved of secrecy is then proved of each pair by itself. */
+ * back, and call the layer on it with N = 2, h = 1 and its factor: 1,684 words at a time on two shares. The shares were the same over the same tape
+ * words in every test; what is proved of secrecy is then proved of each pair by itself. */
 lubewon_answer lubewon_layer_shares(size_t n, size_t count, size_t distance, uint64_t *numbers, size_t numbers_len, const uint64_t *factors,
                                     size_t factors_len, uint64_t *work, size_t work_len, const uint64_t *tape, size_t tape_len);
 

@@ -18,6 +18,6 @@ pub record TakesTape (units : ℕ) (plan : List ℕ) : Type 0 where
   pub most : units ≤ 12 * planMax
   pub tape : (n : ℕ) → 2 ≤ n → n ≤ 8 → foretoldTape n plan ≡ units * (n * (n - 1))
 
--- cells that share programs use: shares of registers, AND's scratch and ADD's helpers; the rest of 512 stay as they are
+-- cells that translated plans use: shares of registers, AND's scratch and ADD's helpers; the rest of 512 stay as they are
 abbrev pub machineCells : ℕ
 machineCells = 352

@@ -1,5 +1,5 @@
--- Names that inner contracts cite: nothing here has to be believed. Numbers held in slots lie in cells of the work slice that share programs do
--- not use.
+-- Names that inner contracts cite: nothing here has to be believed. Numbers held in slots lie in cells of the work slice that translated
+-- plans do not use.
 use mathlib.Core.Path.{_≡_}
 use mathlib.Core.List.{List, [], _∷_}
 use Prim.Native.Nat.{ℕ, suc, _+_, _*_, _<_}
