@@ -46,16 +46,15 @@ module _ (n : ℕ) (least : 2 ≤ n) (most : n ≤ 8) (x y tape : List ℕ) (wx 
       λ j lj. ap xorAll (read-back n 2 parts j lj (E .held (slotRe + j) .size)) ∙ ap (λ (s : Slots ℕ). s .held (slotRe + j)) joined in
       ap₂ (λ (r i : ℕ). r ∷ i ∷ []) (at 0 (omega arith)) (at 1 (omega arith))
 
-complex-secret : (n : ℕ) → 2 ≤ n → n ≤ 8 → (before : List Act) (o : Operation) (k a b : ℕ) (after : List Act)
-    → complexActs ≡ before ++ (Call o k a b ∷ after) → (step : ℕ) → step < length (program n (planOf o)) → ComplexSecret n before o a b step
-complex-secret n least most before o k a b after e step inside =
-    let H = acts-secret n least most before o k a b after (subst PutsWords e tt) step inside in
+complex-secret : (n : ℕ) → 2 ≤ n → n ≤ 8 → (o : Operation) (step : ℕ) → step < length (program n (planOf o)) → ComplexSecret n o step
+complex-secret n least most o step inside =
+    let H = acts-secret n least most o step inside in
     record {
       share = H .share;
       below = H .below;
-      hidden = λ x y x′ y′ wx wy wx′ wy′ g.
+      hidden = λ before k a b after e x y x′ y′ wx wy wx′ wy′ g.
           subst (λ (acts : List Act). CallHidden n acts before o a b step (complexStart n x y) (complexStart n x′ y′)) (sym e)
-          (H .hidden (complexStart n x y) (complexStart n x′ y′) (complex-shared n x y wx wy) (complex-shared n x′ y′ wx′ wy′)
+          (H .hidden before k a b after (subst PutsWords e tt) (complexStart n x y) (complexStart n x′ y′) (complex-shared n x y wx wy) (complex-shared n x′ y′ wx′ wy′)
           (complex-agree n x y (H .share) (H .below) x′ y′ g));
     }
 
@@ -86,16 +85,15 @@ module _ (n N h : ℕ) (least : 2 ≤ n) (most : n ≤ 8) (numbers factors tape 
       mapped-same (λ j. xorAll (numberOf n (2 * N) j (asWords n (2 * N) lent))) (runPlain acts (plainStart (joinedWords n (2 * N) numbers)) .lent) (2 * N)
       (λ j lj. ap xorAll (read-back n (2 * N) lent j lj (E .lent j .size)) ∙ ap (λ (s : Slots ℕ). s .lent j) joined)
 
-layer-secret : (n N h : ℕ) (factors : List ℕ) → 2 ≤ n → n ≤ 8 → Words factors → (before : List Act) (o : Operation) (k a b : ℕ) (after : List Act)
-    → layerActs N h factors ≡ before ++ (Call o k a b ∷ after) → (step : ℕ) → step < length (program n (planOf o)) → LayerSecret n N h factors before o a b step
-layer-secret n N h factors least most wf before o k a b after e step inside =
-    let H = acts-secret n least most before o k a b after (subst PutsWords e (layer-puts N h factors wf)) step inside in
+layer-secret : (n : ℕ) → 2 ≤ n → n ≤ 8 → (o : Operation) (step : ℕ) → step < length (program n (planOf o)) → LayerSecret n o step
+layer-secret n least most o step inside =
+    let H = acts-secret n least most o step inside in
     record {
       share = H .share;
       below = H .below;
-      hidden = λ numbers numbers′ w w′ g.
+      hidden = λ N h factors wf before k a b after e numbers numbers′ w w′ g.
           subst (λ (acts : List Act). CallHidden n acts before o a b step (layerStart n N numbers) (layerStart n N numbers′)) (sym e)
-          (H .hidden (layerStart n N numbers) (layerStart n N numbers′) (layer-shared n N numbers w) (layer-shared n N numbers′ w′)
+          (H .hidden before k a b after (subst PutsWords e (layer-puts N h factors wf)) (layerStart n N numbers) (layerStart n N numbers′) (layer-shared n N numbers w) (layer-shared n N numbers′ w′)
           (layer-agree n N numbers (H .share) (H .below) numbers′ g));
     }
 

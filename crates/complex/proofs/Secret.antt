@@ -105,12 +105,12 @@ module _ (n : ℕ) (least : 2 ≤ n) (most : n ≤ 8) (o : Operation) (k a b : �
         (act-shared n least most c s′ (P .pairing .there t) (q .0) S′ (h′ .words) (enough (P .pairing .there t) h′)) (P .agree t h))
 
 pub acts-secret : ActsSecret
-acts-secret n least most before o k a b after w step inside =
+acts-secret n least most o step inside =
     let H = masked o .secret n least most step inside in
     record {
       share = H .share;
       below = H .below;
-      hidden = λ s s′ S S′ g.
+      hidden = λ before k a b after w s s′ S S′ g.
           let I = hidden-in n least most o k a b after step (H .share) (H .below) (H .hidden) before w s s′ S S′ g in
           record {
             pairing = I .pairing;

@@ -35,7 +35,7 @@ module _ (n : ℕ) (x y : List ℕ) where
         lent = λ j. zeros-operand n;
       }
 
-  pub complex-agree : (i : ℕ) → i < n → (x′ y′ : List ℕ) → OperandsAgree n i x y x′ y′ → AgreeIn i (complexStart n x y) (complexStart n x′ y′)
+  pub complex-agree : (i : ℕ) → i < n → (x′ y′ : List ℕ) → OperandsAgree i x y x′ y′ → AgreeIn i (complexStart n x y) (complexStart n x′ y′)
   complex-agree i li x′ y′ g =
       let same : (j : ℕ) (l l′ : List ℕ) → getD l (2 * i + j) 0 ≡ getD l′ (2 * i + j) 0 → getD (numberOf n 2 j l) i 0 ≡ getD (numberOf n 2 j l′) i 0 =
       λ j l l′ e. number-at n 2 j l i li ∙ e ∙ sym (number-at n 2 j l′ i li) in

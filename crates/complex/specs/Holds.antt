@@ -28,15 +28,17 @@ ActsJoin =
 
 -- ---- the complex product
 
--- two operands that agree in share i: both parts of each
-pub record OperandsAgree (n i : ℕ) (x y x′ y′ : List ℕ) : Type 0 where
+-- x agrees with x′ and y with y′ in share i: both parts of each
+pub record OperandsAgree (i : ℕ) (x y x′ y′ : List ℕ) : Type 0 where
   pub first : (j : ℕ) → j < 2 → getD x (2 * i + j) 0 ≡ getD x′ (2 * i + j) 0
   pub second : (j : ℕ) → j < 2 → getD y (2 * i + j) 0 ≡ getD y′ (2 * i + j) 0
 
-pub record ComplexSecret (n : ℕ) (before : List Act) (o : Operation) (a b step : ℕ) : Type 0 where
+-- one share number for a step of an operation, whichever of its calls it is a step of
+pub record ComplexSecret (n : ℕ) (o : Operation) (step : ℕ) : Type 0 where
   pub share : ℕ
   pub below : share < n
-  pub hidden : (x y x′ y′ : List ℕ) → Words x → Words y → Words x′ → Words y′ → OperandsAgree n share x y x′ y′
+  pub hidden : (before : List Act) (k a b : ℕ) (after : List Act) → complexActs ≡ before ++ (Call o k a b ∷ after)
+      → (x y x′ y′ : List ℕ) → Words x → Words y → Words x′ → Words y′ → OperandsAgree share x y x′ y′
       → CallHidden n complexActs before o a b step (complexStart n x y) (complexStart n x′ y′)
 
 pub record ComplexHolds : Type 0 where
@@ -46,16 +48,17 @@ pub record ComplexHolds : Type 0 where
       joinedWords n 2 (complexResult n x y result work tape) ≡ complexRe a b c d ∷ complexIm a b c d ∷ []
   -- its tape words are those of its calls; from the plans' own ANDs and ADDs
   pub tape : (n : ℕ) → 2 ≤ n → n ≤ 8 → (tapeFor n complexActs ≡ complexTape n) × (complexTape n ≡ 518 * (n * (n - 1)))
-  pub secret : (n : ℕ) → 2 ≤ n → n ≤ 8 → (before : List Act) (o : Operation) (k a b : ℕ) (after : List Act)
-      → complexActs ≡ before ++ (Call o k a b ∷ after) → (step : ℕ) → step < length (program n (planOf o)) → ComplexSecret n before o a b step
+  pub secret : (n : ℕ) → 2 ≤ n → n ≤ 8 → (o : Operation) (step : ℕ) → step < length (program n (planOf o)) → ComplexSecret n o step
 
 -- ---- a layer
 
-pub record LayerSecret (n N h : ℕ) (factors : List ℕ) (before : List Act) (o : Operation) (a b step : ℕ) : Type 0 where
+-- one share number for a step of an operation, whichever call of whichever layer it is a step of
+pub record LayerSecret (n : ℕ) (o : Operation) (step : ℕ) : Type 0 where
   pub share : ℕ
   pub below : share < n
   -- numbers that agree in that share: its 2N words
-  pub hidden : (numbers numbers′ : List ℕ) → Words numbers → Words numbers′
+  pub hidden : (N h : ℕ) (factors : List ℕ) → Words factors → (before : List Act) (k a b : ℕ) (after : List Act)
+      → layerActs N h factors ≡ before ++ (Call o k a b ∷ after) → (numbers numbers′ : List ℕ) → Words numbers → Words numbers′
       → ((j : ℕ) → j < 2 * N → getD numbers (2 * N * share + j) 0 ≡ getD numbers′ (2 * N * share + j) 0)
       → CallHidden n (layerActs N h factors) before o a b step (layerStart n N numbers) (layerStart n N numbers′)
 
@@ -65,9 +68,7 @@ pub record LayerHolds : Type 0 where
       → joinedWords n (2 * N) (layerNumbers n N h numbers factors work tape) ≡ layerWords N h (joinedWords n (2 * N) numbers) factors
   pub tape : (n N h : ℕ) (factors : List ℕ) → 2 ≤ n → n ≤ 8
       → (tapeFor n (layerActs N h factors) ≡ layerTape n N) × (layerTape n N ≡ N / 2 * (842 * (n * (n - 1))))
-  pub secret : (n N h : ℕ) (factors : List ℕ) → 2 ≤ n → n ≤ 8 → Words factors → (before : List Act) (o : Operation) (k a b : ℕ) (after : List Act)
-      → layerActs N h factors ≡ before ++ (Call o k a b ∷ after) → (step : ℕ) → step < length (program n (planOf o))
-      → LayerSecret n N h factors before o a b step
+  pub secret : (n : ℕ) → 2 ≤ n → n ≤ 8 → (o : Operation) (step : ℕ) → step < length (program n (planOf o)) → LayerSecret n o step
 
 pub record Transforms : Type 0 where
   pub acts-join : ActsJoin

@@ -1,6 +1,7 @@
--- Secrecy of a list of acts on shares: for any step of any of its calls there is a share number such that for any two inputs that agree in that
--- share of every number, tapes for the whole list pair off, and paired calculations write equal words at that step. Each call is a share run
--- that demand 3 is about, from its operands placed, over its part of the tape; the calls before it run over the tape's words before that part.
+-- Secrecy of lists of acts on shares: for any step of an operation there is a share number such that, wherever in a list of acts a call of that
+-- operation stands, for any two inputs that agree in that share of every number, tapes for the whole list pair off, and paired calculations write
+-- equal words at that step of that call. Each call is a share run that demand 3 is about, from its operands placed, over its part of the tape; the
+-- calls before it run over the tape's words before that part.
 use mathlib.Core.Path.{_≡_}
 use mathlib.Core.List.{List, [], _∷_, _++_}
 use Prim.Native.Nat.{ℕ, suc, _^_, _≤_, _<_}
@@ -60,13 +61,12 @@ pub record CallHidden (n : ℕ) (acts before : List Act) (o : Operation) (a b st
       → doneIn n before o a b s′ (pairing .there tape) budgets′ ≡ suc step
       → wordIn n before o a b s tape step budgets ≡ wordIn n before o a b s′ (pairing .there tape) step budgets′
 
-pub record CallSecret (n : ℕ) (acts before : List Act) (o : Operation) (a b step : ℕ) : Type 0 where
+-- one share number for a step of an operation, wherever in a list of acts its call stands
+pub record StepSecret (n : ℕ) (o : Operation) (step : ℕ) : Type 0 where
   pub share : ℕ
   pub below : share < n
-  pub hidden : (s s′ : Slots (List ℕ)) → Shared n s → Shared n s′ → AgreeIn share s s′ → CallHidden n acts before o a b step s s′
+  pub hidden : (before : List Act) (k a b : ℕ) (after : List Act) → PutsWords (before ++ (Call o k a b ∷ after))
+      → (s s′ : Slots (List ℕ)) → Shared n s → Shared n s′ → AgreeIn share s s′ → CallHidden n (before ++ (Call o k a b ∷ after)) before o a b step s s′
 
--- of any list of acts: for any step of any of its calls
 abbrev pub ActsSecret : Type 0
-ActsSecret =
-    (n : ℕ) → 2 ≤ n → n ≤ 8 → (before : List Act) (o : Operation) (k a b : ℕ) (after : List Act) → PutsWords (before ++ (Call o k a b ∷ after))
-    → (step : ℕ) → step < length (program n (planOf o)) → CallSecret n (before ++ (Call o k a b ∷ after)) before o a b step
+ActsSecret = (n : ℕ) → 2 ≤ n → n ≤ 8 → (o : Operation) (step : ℕ) → step < length (program n (planOf o)) → StepSecret n o step

@@ -35,7 +35,7 @@ agree-in h = record { held = h .held; lent = h .lent }
 ends-agree : {n i : ℕ} {plan l l′ : List ℕ} → EndsAgree n plan i l l′ → EndsAgree n plan i l l′
 ends-agree h = record { pairing = h .pairing; agree = h .agree }
 
-operands-agree : {n i : ℕ} {x y x′ y′ : List ℕ} → OperandsAgree n i x y x′ y′ → OperandsAgree n i x y x′ y′
+operands-agree : {i : ℕ} {x y x′ y′ : List ℕ} → OperandsAgree i x y x′ y′ → OperandsAgree i x y x′ y′
 operands-agree h = record { first = h .first; second = h .second }
 
 complex-holds : ComplexHolds → ComplexHolds
@@ -79,10 +79,10 @@ module _ (C : Claims) where
       → tapeFor n acts ≤ length tape → joinedSlots (runShares n acts tape s) ≡ runPlain acts (joinedSlots s)
   joined = C .transforms .acts-join
 
-  secret : (n : ℕ) → 2 ≤ n → n ≤ 8 → (before : List Act) (o : Operation) (k a b : ℕ) (after : List Act) → PutsWords (before ++ (Call o k a b ∷ after))
-      → (step : ℕ) → step < length (program n (planOf o))
-      → (i : ℕ) × (i < n) × ((s s′ : Slots (List ℕ)) → Shared n s → Shared n s′ → AgreeIn i s s′ → CallHidden n (before ++ (Call o k a b ∷ after)) before o a b step s s′)
-  secret n l m before o k a b after p step h = let q = C .transforms .acts-secret n l m before o k a b after p step h in (q .share, q .below, q .hidden)
+  secret : (n : ℕ) → 2 ≤ n → n ≤ 8 → (o : Operation) (step : ℕ) → step < length (program n (planOf o))
+      → (i : ℕ) × (i < n) × ((before : List Act) (k a b : ℕ) (after : List Act) → PutsWords (before ++ (Call o k a b ∷ after))
+      → (s s′ : Slots (List ℕ)) → Shared n s → Shared n s′ → AgreeIn i s s′ → CallHidden n (before ++ (Call o k a b ∷ after)) before o a b step s s′)
+  secret n l m o step h = let q = C .transforms .acts-secret n l m o step h in (q .share, q .below, q .hidden)
 
   complex-joins : (n : ℕ) (x y result work tape : List ℕ) → Words x → Words y → Words tape → complexCallAnswer n x y result work tape .number ≡ 0
       → let a = xorAll (numberOf n 2 0 x) in let b = xorAll (numberOf n 2 1 x) in let c = xorAll (numberOf n 2 0 y) in let d = xorAll (numberOf n 2 1 y) in
@@ -92,11 +92,11 @@ module _ (C : Claims) where
   complex-tape : (n : ℕ) → 2 ≤ n → n ≤ 8 → tapeFor n complexActs ≡ 518 * (n * (n - 1))
   complex-tape n l m = let q = C .transforms .complex .tape n l m in q .0 ∙ q .1
 
-  complex-secret : (n : ℕ) → 2 ≤ n → n ≤ 8 → (before : List Act) (o : Operation) (k a b : ℕ) (after : List Act) → complexActs ≡ before ++ (Call o k a b ∷ after)
-      → (step : ℕ) → step < length (program n (planOf o))
-      → (i : ℕ) × (i < n) × ((x y x′ y′ : List ℕ) → Words x → Words y → Words x′ → Words y′ → OperandsAgree n i x y x′ y′
+  complex-secret : (n : ℕ) → 2 ≤ n → n ≤ 8 → (o : Operation) (step : ℕ) → step < length (program n (planOf o))
+      → (i : ℕ) × (i < n) × ((before : List Act) (k a b : ℕ) (after : List Act) → complexActs ≡ before ++ (Call o k a b ∷ after)
+      → (x y x′ y′ : List ℕ) → Words x → Words y → Words x′ → Words y′ → OperandsAgree i x y x′ y′
       → CallHidden n complexActs before o a b step (complexStart n x y) (complexStart n x′ y′))
-  complex-secret n l m before o k a b after e step h = let q = C .transforms .complex .secret n l m before o k a b after e step h in (q .share, q .below, q .hidden)
+  complex-secret n l m o step h = let q = C .transforms .complex .secret n l m o step h in (q .share, q .below, q .hidden)
 
   layer-joins : (n N h : ℕ) (numbers factors work tape : List ℕ) → Words numbers → Words factors → Words tape
       → layerCallAnswer n N h numbers factors work tape .number ≡ 0
@@ -115,10 +115,9 @@ module _ (C : Claims) where
   layer-tape : (n N h : ℕ) (factors : List ℕ) → 2 ≤ n → n ≤ 8 → tapeFor n (layerActs N h factors) ≡ N / 2 * (842 * (n * (n - 1)))
   layer-tape n N h factors l m = let q = C .transforms .layer .tape n N h factors l m in q .0 ∙ q .1
 
-  layer-secret : (n N h : ℕ) (factors : List ℕ) → 2 ≤ n → n ≤ 8 → Words factors → (before : List Act) (o : Operation) (k a b : ℕ) (after : List Act)
-      → layerActs N h factors ≡ before ++ (Call o k a b ∷ after) → (step : ℕ) → step < length (program n (planOf o))
-      → (i : ℕ) × (i < n) × ((numbers numbers′ : List ℕ) → Words numbers → Words numbers′
+  layer-secret : (n : ℕ) → 2 ≤ n → n ≤ 8 → (o : Operation) (step : ℕ) → step < length (program n (planOf o))
+      → (i : ℕ) × (i < n) × ((N h : ℕ) (factors : List ℕ) → Words factors → (before : List Act) (k a b : ℕ) (after : List Act)
+      → layerActs N h factors ≡ before ++ (Call o k a b ∷ after) → (numbers numbers′ : List ℕ) → Words numbers → Words numbers′
       → ((j : ℕ) → j < 2 * N → getD numbers (2 * N * i + j) 0 ≡ getD numbers′ (2 * N * i + j) 0)
       → CallHidden n (layerActs N h factors) before o a b step (layerStart n N numbers) (layerStart n N numbers′))
-  layer-secret n N h factors l m w before o k a b after e step s =
-      let q = C .transforms .layer .secret n N h factors l m w before o k a b after e step s in (q .share, q .below, q .hidden)
+  layer-secret n l m o step h = let q = C .transforms .layer .secret n l m o step h in (q .share, q .below, q .hidden)
