@@ -1,24 +1,66 @@
 -- Secrecy of a list of acts (`acts-secret`): the share is the one that the call's step asks for of its operands. Each act before the call hands
 -- agreement in that share on over paired tapes (Slots), and the call itself has the operation's secrecy; the pairings go in turn (masking's
--- InTurn).
-use mathlib.Core.Path.{_≡_, sym, ap, ap₂, subst, _∙_}
+-- InTurn). That the step is reached is masking's InARow.
+use mathlib.Core.Path.{_≡_, refl, sym, ap, ap₂, subst, _∙_}
 use mathlib.Core.List.{List, [], _∷_, _++_}
-use Prim.Native.Nat.{ℕ, suc, _+_, _≤_, _<_}
+use Prim.Native.Nat.{ℕ, suc, _+_, _-_, _≤_, _<_, min}
 use native.Mathlib.Omega.{arith}
-use native.Mathlib.Nat.{le-of-eq}
-use lib.ListN.{length, getD, take, drop}
+use native.Mathlib.Nat.{add-zero, le-trans, le-of-eq}
+use lib.ListN.{length, getD, take, drop, replicate, length-append, length-take, length-drop, length-replicate}
 use lib.Seq.{drop-drop}
-use Rattle.masking.specs.Foretold.{foretoldTape}
+use Rattle.checks.specs.declared.answer.Answer.{Answer}
+use Rattle.masking.specs.Translation.{program}
+use Rattle.masking.specs.Foretold.{Accepted, foretoldTape}
+use Rattle.masking.specs.Machine.{rands}
+use Rattle.masking.specs.Runs.{standing}
 use Rattle.masking.specs.Secrecy.{Tape, Pairing, doneAfter, wordAfter, Hidden}
+use Rattle.masking.proofs.emitted.Counts.{plan-counts}
+use Rattle.masking.proofs.InARow.{each-run, rands-take}
 use Rattle.masking.proofs.secret.InTurn.{cleaned, cleaned-tape, cleaned-same, first-tape, rest-tape, same, in-turn, there-first, there-rest}
 use Rattle.binary64.specs.Operations.{Operation}
 use Rattle.plans.specs.BuiltIns.{planOf}
 use Rattle.execution.specs.Shares.{placed}
+use Rattle.execution.proofs.Filling.{placed-size}
 use Rattle.operations.specs.Masked.{Operand}
 use Rattle.operations.proofs.Masked.{masked}
-use Rattle.complex.specs.Acts.{Act, Call, Slots, onShares, actTape, tapeFor}
-use Rattle.complex.specs.Secrecy.{Shared, AgreeIn, PutsWords, startOf, wordsBefore, ActsSecret}
-use Rattle.complex.proofs.Slots.{first-puts, act-shared, act-part, ActAgrees, act-pairing}
+use Rattle.complex.specs.Acts.{Act, Call, Slots, onShares, actTape, tapeFor, runShares}
+use Rattle.complex.specs.Secrecy.{Shared, AgreeIn, PutsWords, startOf, wordsBefore, partOf, doneIn, ActsSecret}
+use Rattle.complex.proofs.Laws.{tape-append}
+use Rattle.complex.proofs.Slots.{first-puts, plan-accepted, act-shared, act-part, ActAgrees, act-pairing}
+
+-- ---- a step is reached
+
+-- a share run with a budget of suc step, over a tape part as long as foretold
+reached-by : (n : ℕ) (plan : List ℕ) → Accepted n plan → (cells before part : List ℕ) → length cells ≡ 512 → foretoldTape n plan ≤ length part
+    → (step : ℕ) → step < length (program n plan) → doneAfter n plan cells before part (suc step ∷ []) ≡ suc step
+reached-by n plan A cells before part size enough step inside =
+    let P = program n plan in
+    let C = plan-counts n plan A in
+    let tape = before ++ part in
+    let all : length tape ≡ length before + length part = length-append before part in
+    let some : rands (take (suc step) P) ≤ foretoldTape n plan = le-trans (rands-take P (suc step)) (le-of-eq (C .tape)) in
+    let R =
+    each-run P tape cells (length before) (C .longest) (C .good) (standing cells 0 (length before))
+    (record { within = omega arith; tapeAt = sym (add-zero (length before)); inTape = omega arith; cells = refl; size = size }) (suc step) in
+    let m : min (suc step) (length P - 0) ≡ suc step = omega arith in
+    add-zero _ ∙ ap (λ (a : Answer). a .words) (R .else (omega arith)) ∙ m
+
+placed-512 : (x y : List ℕ) → length (placed x y) ≡ 512
+unfolding placed
+placed-512 x y = placed-size 1 0 y _ ∙ placed-size 0 0 x (replicate 512 0) ∙ length-replicate {A = ℕ} 512 0
+
+-- of a call in a list of acts
+pub reached-in : (n : ℕ) → 2 ≤ n → n ≤ 8 → (before : List Act) (o : Operation) (k a b : ℕ) (after : List Act) (step : ℕ) → step < length (program n (planOf o))
+    → (s : Slots (List ℕ)) (tape : List ℕ) → Tape (tapeFor n (before ++ (Call o k a b ∷ after))) tape → doneIn n before o a b s tape (suc step ∷ []) ≡ suc step
+reached-in n least most before o k a b after step inside s tape h =
+    let t = runShares n before tape s in
+    let rest = drop (tapeFor n before) tape in
+    let size : length rest ≡ length tape - tapeFor n before = length-drop (tapeFor n before) tape in
+    reached-by n (planOf o) (plan-accepted n least most o) (startOf n before o a b s tape) (wordsBefore n before o a b s tape) (partOf n before o a b s tape)
+    (placed-512 (t .held a) (t .held b))
+    (omega (arith, length-take (foretoldTape n (planOf o)) rest, size, h .size, tape-append n before (Call o k a b ∷ after))) step inside
+
+-- ---- its word is hidden
 
 -- share runs of a call from two starts over two parts of tapes write equal words at a step, whatever words are before the parts
 pub record Meet (n : ℕ) (plan : List ℕ) (step : ℕ) (l l′ part part′ : List ℕ) : Type 0 where
@@ -114,6 +156,10 @@ acts-secret n least most o step inside =
           let I = hidden-in n least most o k a b after step (H .share) (H .below) (H .hidden) before w s s′ S S′ g in
           record {
             pairing = I .pairing;
+            reached = λ tape h. (
+              reached-in n least most before o k a b after step inside s tape h,
+              reached-in n least most before o k a b after step inside s′ (I .pairing .there tape) (I .pairing .there-tape tape h),
+            );
             equal = λ tape h. I .meet tape h .equal (wordsBefore n before o a b s tape) (wordsBefore n before o a b s′ (I .pairing .there tape));
           };
     }

@@ -53,20 +53,22 @@ module _ (n : ℕ) (before : List Act) (o : Operation) (a b : ℕ) (s : Slots (L
   abbrev pub wordIn : ℕ → List ℕ → ℕ
   wordIn step budgets = wordAfter n (planOf o) step startOf wordsBefore partOf budgets
 
--- paired calculations write equal words at the call's step
+-- paired calculations write equal words at the call's step; a share run of the call with a budget of suc step reaches it in both
 pub record CallHidden (n : ℕ) (acts before : List Act) (o : Operation) (a b step : ℕ) (s s′ : Slots (List ℕ)) : Type 0 where
   pub pairing : Pairing (tapeFor n acts)
+  pub reached : (tape : List ℕ) → Tape (tapeFor n acts) tape
+      → (doneIn n before o a b s tape (suc step ∷ []) ≡ suc step) × (doneIn n before o a b s′ (pairing .there tape) (suc step ∷ []) ≡ suc step)
   pub equal : (tape : List ℕ) → Tape (tapeFor n acts) tape → (budgets budgets′ : List ℕ)
       → doneIn n before o a b s tape budgets ≡ suc step
       → doneIn n before o a b s′ (pairing .there tape) budgets′ ≡ suc step
       → wordIn n before o a b s tape step budgets ≡ wordIn n before o a b s′ (pairing .there tape) step budgets′
 
 -- one share number for a step of an operation, wherever in a list of acts its call stands
-pub record StepSecret (n : ℕ) (o : Operation) (step : ℕ) : Type 0 where
+pub record StepOfCalls (n : ℕ) (o : Operation) (step : ℕ) : Type 0 where
   pub share : ℕ
   pub below : share < n
   pub hidden : (before : List Act) (k a b : ℕ) (after : List Act) → PutsWords (before ++ (Call o k a b ∷ after))
       → (s s′ : Slots (List ℕ)) → Shared n s → Shared n s′ → AgreeIn share s s′ → CallHidden n (before ++ (Call o k a b ∷ after)) before o a b step s s′
 
 abbrev pub ActsSecret : Type 0
-ActsSecret = (n : ℕ) → 2 ≤ n → n ≤ 8 → (o : Operation) (step : ℕ) → step < length (program n (planOf o)) → StepSecret n o step
+ActsSecret = (n : ℕ) → 2 ≤ n → n ≤ 8 → (o : Operation) (step : ℕ) → step < length (program n (planOf o)) → StepOfCalls n o step

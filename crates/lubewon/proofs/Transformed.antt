@@ -67,6 +67,11 @@ module _ (n : ℕ) (acts before : List Act) (o : Operation) (a b step : ℕ) (s 
   abbrev paired : Pairing (tapeFor n acts)
   paired = H .pairing
 
+  reached : (tape : List ℕ) → Tape (tapeFor n acts) tape
+      → (doneAfter n (planOf o) (begun s tape) (earlier tape) (part tape) (suc step ∷ []) ≡ suc step)
+      × (doneAfter n (planOf o) (begun s′ (paired .there tape)) (earlier (paired .there tape)) (part (paired .there tape)) (suc step ∷ []) ≡ suc step)
+  reached = H .reached
+
   equal : (tape : List ℕ) → Tape (tapeFor n acts) tape → (budgets budgets′ : List ℕ)
       → doneAfter n (planOf o) (begun s tape) (earlier tape) (part tape) budgets ≡ suc step
       → doneAfter n (planOf o) (begun s′ (paired .there tape)) (earlier (paired .there tape)) (part (paired .there tape)) budgets′ ≡ suc step
