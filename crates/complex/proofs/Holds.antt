@@ -1,5 +1,5 @@
 -- All that is proved of the complex product and of a layer (`transforms`), in terms of the lent words: what holds of any list of acts (Joined,
--- Secret), at the slots that these calls start from (Starts), with their tape words (Tape). Rests on Answered for what a done call was given,
+-- Called, Secret), at the slots that these calls start from (Starts), with their tape words (Tape). Rests on Answered for what a done call was given,
 -- and on Laid for reading results.
 use mathlib.Core.Path.{_≡_, refl, sym, ap, ap₂, subst, _∙_}
 use mathlib.Core.List.{List, [], _∷_, _++_}
@@ -23,6 +23,7 @@ use Rattle.complex.proofs.Laid.{mapped-same, read-back}
 use Rattle.complex.proofs.Answered.{complex-ready, layer-ready}
 use Rattle.complex.proofs.Slots.{acts-shared}
 use Rattle.complex.proofs.Joined.{acts-join}
+use Rattle.complex.proofs.Called.{acts-are-calls}
 use Rattle.complex.proofs.Secret.{acts-secret}
 use Rattle.complex.proofs.Tape.{four-two, complex-units, layer-calls, layer-units}
 use Rattle.complex.proofs.Starts.{complex-shared, complex-agree, layer-shared, layer-agree, layer-joined, layer-puts}
@@ -108,4 +109,4 @@ layer-holds =
     }
 
 pub transforms : Transforms
-transforms = record { acts-join = acts-join; acts-secret = acts-secret; complex = complex-holds; layer = layer-holds }
+transforms = record { acts-join = acts-join; acts-are-calls = acts-are-calls; acts-secret = acts-secret; complex = complex-holds; layer = layer-holds }

@@ -1,6 +1,7 @@
 -- Places of a layer's pairs (Powers), laws of slots and acts (Laws), the plain layer (Plainly), what a done call was given (Answered), and the
 -- lent words (Laid). What is proved of calculations made of calls: numbers stay n shares and hand on agreement in a share (Slots), they join
--- (Joined), each step is secret (Secret), tape words (Tape); and at the lent words of the complex product and a layer (Starts, Holds).
+-- (Joined), each call gives what it gives by itself (Called), each step is secret (Secret), tape words (Tape); and at the lent words of the
+-- complex product and a layer (Starts, Holds).
 -- What a layer on plain words means (Means), and the worked examples (Examples).
 pub mod Powers
 pub mod Laws
@@ -8,6 +9,7 @@ pub mod Laid
 pub mod Answered
 pub mod Slots
 pub mod Joined
+pub mod Called
 pub mod Secret
 pub mod Tape
 pub mod Starts

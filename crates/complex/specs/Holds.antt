@@ -4,17 +4,20 @@ use mathlib.Core.Path.{_≡_}
 use mathlib.Core.List.{List, [], _∷_, _++_}
 use Prim.Native.Nat.{ℕ, _+_, _-_, _*_, _/_, _≤_, _<_}
 use lib.ListN.{length, getD}
+use Rattle.checks.specs.Answers.{done}
 use Rattle.masking.specs.Translation.{program}
+use Rattle.masking.specs.Foretold.{foretoldTape}
 use Rattle.masking.specs.Machine.{Words}
 use Rattle.binary64.specs.Operations.{Operation}
 use Rattle.plans.specs.BuiltIns.{planOf}
+use Rattle.execution.specs.Shares.{callAnswer, resultAfter}
 use Rattle.splitting.specs.SplitJoin.{xorAll}
 use Rattle.complex.specs.Acts.{Act, Call, Slots, runPlain, tapeFor, runShares}
 use Rattle.complex.specs.Complex.{complexActs, complexRe, complexIm}
 use Rattle.complex.specs.Layer.{layerActs}
 use Rattle.complex.specs.Layout.{numberOf, joinedWords}
 use Rattle.complex.specs.Calls.{complexTape, complexStart, complexCallAnswer, complexResult, layerTape, layerStart, layerCallAnswer, layerNumbers, layerWords}
-use Rattle.complex.specs.Secrecy.{Shared, PutsWords, CallHidden, ActsSecret}
+use Rattle.complex.specs.Secrecy.{Shared, PutsWords, partOf, CallHidden, ActsSecret}
 
 -- ---- any list of acts
 
@@ -25,6 +28,20 @@ abbrev pub ActsJoin : Type 0
 ActsJoin =
     (n : ℕ) → 2 ≤ n → n ≤ 8 → (acts : List Act) → PutsWords acts → (s : Slots (List ℕ)) → Shared n s → (tape : List ℕ) → Words tape
     → tapeFor n acts ≤ length tape → joinedSlots (runShares n acts tape s) ≡ runPlain acts (joinedSlots s)
+
+-- "The shares are those of our calls on shares, one after another on the tape": a call in a list of acts gives what the call by itself gives over
+-- its part of the tape, whatever its result and work slices held.
+pub record AsCalled (n : ℕ) (before : List Act) (o : Operation) (k a b : ℕ) (s : Slots (List ℕ)) (tape result work : List ℕ) : Type 0 where
+  pub answer : callAnswer (planOf o) (runShares n before tape s .held a) (runShares n before tape s .held b) result work (partOf n before o a b s tape)
+      ≡ done 0 (foretoldTape n (planOf o))
+  pub result-is : runShares n (before ++ (Call o k a b ∷ [])) tape s .held k
+      ≡ resultAfter (planOf o) (runShares n before tape s .held a) (runShares n before tape s .held b) result work (partOf n before o a b s tape)
+
+abbrev pub ActsAreCalls : Type 0
+ActsAreCalls =
+    (n : ℕ) → 2 ≤ n → n ≤ 8 → (before : List Act) (o : Operation) (k a b : ℕ) → PutsWords before → (s : Slots (List ℕ)) → Shared n s
+    → (tape : List ℕ) → Words tape → tapeFor n (before ++ (Call o k a b ∷ [])) ≤ length tape
+    → (result work : List ℕ) → length result ≡ n → length work ≡ 512 → AsCalled n before o k a b s tape result work
 
 -- ---- the complex product
 
@@ -72,6 +89,7 @@ pub record LayerHolds : Type 0 where
 
 pub record Transforms : Type 0 where
   pub acts-join : ActsJoin
+  pub acts-are-calls : ActsAreCalls
   pub acts-secret : ActsSecret
   pub complex : ComplexHolds
   pub layer : LayerHolds

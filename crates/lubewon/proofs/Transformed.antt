@@ -5,6 +5,7 @@ use mathlib.Core.Bool.{true}
 use mathlib.Core.List.{List, [], _∷_, _++_}
 use Prim.Native.Nat.{ℕ, suc, _+_, _-_, _*_, _/_, _%_, _≤_, _<_}
 use lib.ListN.{length, getD, take, drop}
+use Rattle.checks.specs.Answers.{done}
 use Rattle.masking.specs.Translation.{program}
 use Rattle.masking.specs.Foretold.{foretoldTape}
 use Rattle.masking.specs.Machine.{Words}
@@ -14,7 +15,7 @@ use Rattle.binary64.specs.Product.{product}
 use Rattle.binary64.specs.Sum.{sum}
 use Rattle.binary64.specs.Operations.{Operation}
 use Rattle.plans.specs.BuiltIns.{planOf}
-use Rattle.execution.specs.Shares.{placed}
+use Rattle.execution.specs.Shares.{placed, callAnswer, resultAfter}
 use Rattle.splitting.specs.SplitJoin.{xorAll}
 use Rattle.complex.specs.Acts.{Act, Call, Slots, flipped, runPlain, tapeFor, runShares}
 use Rattle.complex.specs.Complex.{complexActs}
@@ -45,7 +46,7 @@ layer-holds : LayerHolds → LayerHolds
 layer-holds h = record { joins = h .joins; tape = h .tape; secret = h .secret }
 
 transforms : Transforms → Transforms
-transforms h = record { acts-join = h .acts-join; acts-secret = h .acts-secret; complex = h .complex; layer = h .layer }
+transforms h = record { acts-join = h .acts-join; acts-are-calls = h .acts-are-calls; acts-secret = h .acts-secret; complex = h .complex; layer = h .layer }
 
 pair-becomes : {N h k : ℕ} {numbers factors after : List ℕ} → PairBecomes N h numbers factors after k → PairBecomes N h numbers factors after k
 pair-becomes h = record { plus-re = h .plus-re; plus-im = h .plus-im; minus-re = h .minus-re; minus-im = h .minus-im }
@@ -83,6 +84,17 @@ module _ (C : Claims) where
   joined : (n : ℕ) → 2 ≤ n → n ≤ 8 → (acts : List Act) → PutsWords acts → (s : Slots (List ℕ)) → Shared n s → (tape : List ℕ) → Words tape
       → tapeFor n acts ≤ length tape → joinedSlots (runShares n acts tape s) ≡ runPlain acts (joinedSlots s)
   joined = C .transforms .acts-join
+
+  -- a call in a list of acts: its answer and its result by itself, over its part of the tape
+  called : (n : ℕ) → 2 ≤ n → n ≤ 8 → (before : List Act) (o : Operation) (k a b : ℕ) → PutsWords before → (s : Slots (List ℕ)) → Shared n s
+      → (tape : List ℕ) → Words tape → tapeFor n (before ++ (Call o k a b ∷ [])) ≤ length tape → (result work : List ℕ) → length result ≡ n → length work ≡ 512
+      → let x = runShares n before tape s .held a in
+      let y = runShares n before tape s .held b in
+      let part = take (foretoldTape n (planOf o)) (drop (tapeFor n before) tape) in
+      (callAnswer (planOf o) x y result work part ≡ done 0 (foretoldTape n (planOf o)))
+      × (runShares n (before ++ (Call o k a b ∷ [])) tape s .held k ≡ resultAfter (planOf o) x y result work part)
+  called n l m before o k a b p s S tape W e result work lr lw =
+      let q = C .transforms .acts-are-calls n l m before o k a b p s S tape W e result work lr lw in (q .answer, q .result-is)
 
   secret : (n : ℕ) → 2 ≤ n → n ≤ 8 → (o : Operation) (step : ℕ) → step < length (program n (planOf o))
       → (i : ℕ) × (i < n) × ((before : List Act) (k a b : ℕ) (after : List Act) → PutsWords (before ++ (Call o k a b ∷ after))
