@@ -4,11 +4,11 @@ use mathlib.Core.Bool.{true, not, _&&_}
 use Prim.Native.Nat.{ℕ, _*_, _≤_}
 use native.Mathlib.Omega.{arith}
 use lib.Dec.{ltb, eqb}
-use borrow.Author.Tests.{ltb-false, eqb-true, not-false}
+use borrow.Author.Tests.{ltb-false, eqb-true, eq-eqb, not-false}
 use Rattle.checks.specs.declared.answer.Answer.{Answer}
 use Rattle.word.specs.Layout.{isShareCount}
 use Rattle.word.proofs.Small.{share-range}
-use Rattle.checks.specs.Answers.{refused}
+use Rattle.checks.specs.Answers.{done, refused}
 use Rattle.checks.proofs.Passed.{passed}
 use Rattle.complex.specs.Layer.{isLayer, blockCount}
 use Rattle.complex.specs.Calls.{complexTape, complexAnswer, layerTape, layerAnswer, plainLayerAnswer}
@@ -30,6 +30,11 @@ plain-ready N h numbers factors a e z =
       numbers-are = eqb-true numbers (2 * N) (l .0);
       factors-are = eqb-true factors (2 * blockCount N h) (l .1);
     }
+
+-- and the other way
+pub plain-done : (N h numbers factors : ℕ) → isLayer N h ≡ true → numbers ≡ 2 * N → factors ≡ 2 * blockCount N h → plainLayerAnswer N h numbers factors ≡ done 0 0
+unfolding plainLayerAnswer
+plain-done N h numbers factors e n f = rw (e, eq-eqb numbers (2 * N) n, eq-eqb factors (2 * blockCount N h) f)
 
 pub record LayerReady (n N h numbers factors work tape : ℕ) : Type 0 where
   pub least : 2 ≤ n

@@ -7,6 +7,8 @@ use Prim.Native.Nat.{ℕ, _+_, _*_, _≤_, _<_}
 use native.Mathlib.Omega.{arith}
 use lib.ListN.{length}
 use borrow.Author.Tests.{eq-eqb}
+use Rattle.checks.specs.declared.answer.Answer.{Answer}
+use Rattle.checks.specs.Answers.{done, afterCall}
 use Rattle.masking.specs.Translation.{program}
 use Rattle.masking.specs.Machine.{Words}
 use Rattle.binary64.specs.Operations.{Operation}
@@ -16,11 +18,11 @@ use Rattle.complex.specs.Acts.{Act, Call, Slots, runPlain, tapeFor}
 use Rattle.complex.specs.Complex.{complexActs, complexRe, complexIm, slotRe}
 use Rattle.complex.specs.Layer.{layerActs}
 use Rattle.complex.specs.Layout.{numberOf, asWords, joinedWords}
-use Rattle.complex.specs.Calls.{complexTape, complexStart, complexEnd, complexShares, layerTape, layerStart, layerEnd, layerShares, plainStart, layerWords}
+use Rattle.complex.specs.Calls.{complexTape, complexStart, complexEnd, complexShares, layerTape, layerStart, layerEnd, layerShares, layerCallAnswer, layerNumbers, plainStart, layerWords, plainCallAnswer}
 use Rattle.complex.specs.Secrecy.{PutsWords, CallHidden}
 use Rattle.complex.specs.Holds.{joinedSlots, ComplexSecret, ComplexHolds, LayerSecret, LayerHolds, Transforms}
-use Rattle.complex.proofs.Laid.{mapped-same, read-back}
-use Rattle.complex.proofs.Answered.{complex-ready, layer-ready}
+use Rattle.complex.proofs.Laid.{mapped-size, mapped-same, read-back}
+use Rattle.complex.proofs.Answered.{complex-ready, layer-ready, plain-done}
 use Rattle.complex.proofs.Slots.{acts-shared}
 use Rattle.complex.proofs.Joined.{acts-join}
 use Rattle.complex.proofs.Called.{acts-are-calls}
@@ -98,12 +100,23 @@ layer-secret n least most o step inside =
           (layer-agree n N numbers (H .share) (H .below) numbers′ g));
     }
 
+-- the plain call, where the layer is done
+layer-plain : (n N h : ℕ) (numbers factors work tape : List ℕ) → layerCallAnswer n N h numbers factors work tape .number ≡ 0
+    → plainCallAnswer N h (joinedWords n (2 * N) numbers) factors ≡ done 0 0
+layer-plain n N h numbers factors work tape z =
+    let R = layer-ready n N h (length numbers) (length factors) (length work) (length tape) _ refl z in
+    plain-done N h (length (joinedWords n (2 * N) numbers)) (length factors) (R .layer) (mapped-size (λ j. xorAll (numberOf n (2 * N) j numbers)) (2 * N)) (R .factors-are)
+
 layer-holds : LayerHolds
 layer-holds =
     record {
+      plain = layer-plain;
       joins = λ n N h numbers factors work tape wn wf wt z.
           let R = layer-ready n N h (length numbers) (length factors) (length work) (length tape) _ refl z in
-          rw (eq-eqb _ 0 z) (layer-joins n N h (R .least) (R .most) numbers factors tape wn wf wt (R .enough));
+          let joined = joinedWords n (2 * N) numbers in
+          let e : joinedWords n (2 * N) (layerNumbers n N h numbers factors work tape) ≡ layerWords N h joined factors =
+          rw (eq-eqb _ 0 z) (layer-joins n N h (R .least) (R .most) numbers factors tape wn wf wt (R .enough)) in
+          e ∙ sym (ap (λ (a : Answer). afterCall a (layerWords N h joined factors) joined) (layer-plain n N h numbers factors work tape z));
       tape = λ n N h factors least most. (layer-calls n N h factors, layer-units n least most N);
       secret = layer-secret;
     }

@@ -16,7 +16,7 @@ use Rattle.complex.specs.Acts.{Act, Call, Slots, runPlain, tapeFor, runS
 use Rattle.complex.specs.Complex.{complexActs, complexRe, complexIm}
 use Rattle.complex.specs.Layer.{layerActs}
 use Rattle.complex.specs.Layout.{numberOf, joinedWords}
-use Rattle.complex.specs.Calls.{complexTape, complexStart, complexCallAnswer, complexResult, layerTape, layerStart, layerCallAnswer, layerNumbers, layerWords}
+use Rattle.complex.specs.Calls.{complexTape, complexStart, complexCallAnswer, complexResult, layerTape, layerStart, layerCallAnswer, layerNumbers, plainCallAnswer, plainNumbers}
 use Rattle.complex.specs.Secrecy.{Shared, PutsWords, partOf, CallHidden, ActsSecret}
 
 -- ---- any list of acts
@@ -80,9 +80,12 @@ pub record LayerSecret (n : ℕ) (o : Operation) (step : ℕ) : Type 0 where
       → CallHidden n (layerActs N h factors) before o a b step (layerStart n N numbers) (layerStart n N numbers′)
 
 pub record LayerHolds : Type 0 where
+  -- where all is done, the plain call on what the numbers join to is done too, and the numbers join to what it leaves
+  pub plain : (n N h : ℕ) (numbers factors work tape : List ℕ) → layerCallAnswer n N h numbers factors work tape .number ≡ 0
+      → plainCallAnswer N h (joinedWords n (2 * N) numbers) factors ≡ done 0 0
   pub joins : (n N h : ℕ) (numbers factors work tape : List ℕ) → Words numbers → Words factors → Words tape
       → layerCallAnswer n N h numbers factors work tape .number ≡ 0
-      → joinedWords n (2 * N) (layerNumbers n N h numbers factors work tape) ≡ layerWords N h (joinedWords n (2 * N) numbers) factors
+      → joinedWords n (2 * N) (layerNumbers n N h numbers factors work tape) ≡ plainNumbers N h (joinedWords n (2 * N) numbers) factors
   pub tape : (n N h : ℕ) (factors : List ℕ) → 2 ≤ n → n ≤ 8
       → (tapeFor n (layerActs N h factors) ≡ layerTape n N) × (layerTape n N ≡ N / 2 * (842 * (n * (n - 1))))
   pub secret : (n : ℕ) → 2 ≤ n → n ≤ 8 → (o : Operation) (step : ℕ) → step < length (program n (planOf o)) → LayerSecret n o step

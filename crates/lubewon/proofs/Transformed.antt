@@ -21,7 +21,7 @@ use Rattle.complex.specs.Acts.{Act, Call, Slots, flipped, runPlain, tapeFor, ru
 use Rattle.complex.specs.Complex.{complexActs}
 use Rattle.complex.specs.Layer.{isLayer, layerActs}
 use Rattle.complex.specs.Layout.{numberOf, joinedWords}
-use Rattle.complex.specs.Calls.{complexStart, complexCallAnswer, complexResult, layerStart, layerCallAnswer, layerNumbers, layerWords}
+use Rattle.complex.specs.Calls.{complexStart, complexCallAnswer, complexResult, layerStart, layerCallAnswer, layerNumbers, layerWords, plainCallAnswer, plainNumbers}
 use Rattle.complex.specs.Secrecy.{Shared, AgreeIn, PutsWords, CallHidden}
 use Rattle.complex.specs.Holds.{joinedSlots, OperandsAgree, ComplexHolds, LayerHolds, Transforms}
 use Rattle.complex.specs.Means.{PairBecomes, LayerMeans}
@@ -43,7 +43,7 @@ complex-holds : ComplexHolds → ComplexHolds
 complex-holds h = record { joins = h .joins; tape = h .tape; secret = h .secret }
 
 layer-holds : LayerHolds → LayerHolds
-layer-holds h = record { joins = h .joins; tape = h .tape; secret = h .secret }
+layer-holds h = record { plain = h .plain; joins = h .joins; tape = h .tape; secret = h .secret }
 
 transforms : Transforms → Transforms
 transforms h = record { acts-join = h .acts-join; acts-are-calls = h .acts-are-calls; acts-secret = h .acts-secret; complex = h .complex; layer = h .layer }
@@ -115,9 +115,14 @@ module _ (C : Claims) where
       → CallHidden n complexActs before o a b step (complexStart n x y) (complexStart n x′ y′))
   complex-secret n l m o step h = let q = C .transforms .complex .secret n l m o step h in (q .share, q .below, q .hidden)
 
+  -- the plain call on what the numbers join to is done, and the numbers join to what it leaves
+  layer-plain : (n N h : ℕ) (numbers factors work tape : List ℕ) → layerCallAnswer n N h numbers factors work tape .number ≡ 0
+      → plainCallAnswer N h (joinedWords n (2 * N) numbers) factors ≡ done 0 0
+  layer-plain = C .transforms .layer .plain
+
   layer-joins : (n N h : ℕ) (numbers factors work tape : List ℕ) → Words numbers → Words factors → Words tape
       → layerCallAnswer n N h numbers factors work tape .number ≡ 0
-      → joinedWords n (2 * N) (layerNumbers n N h numbers factors work tape) ≡ layerWords N h (joinedWords n (2 * N) numbers) factors
+      → joinedWords n (2 * N) (layerNumbers n N h numbers factors work tape) ≡ plainNumbers N h (joinedWords n (2 * N) numbers) factors
   layer-joins = C .transforms .layer .joins
 
   -- u + w·v, its real part, where u is at place p and v at p + h
