@@ -4,7 +4,7 @@ use mathlib.Core.Path.{_≡_, refl, ap, ap₂, _∙_}
 use mathlib.Core.List.{List}
 use mathlib.Core.Logic.{_⊎_, inl, inr}
 use Prim.Native.Nat.{ℕ, zero, suc, _+_, _-_, _*_, _/_, _%_, _≤_, _<_}
-use native.Mathlib.Nat.{add-zero, mul-comm, mul-assoc, mul-suc, mul-le-mul-left, mod-lt, mod-eq-of-lt, div-eq-of-lt, div-add-mod, div-lt-iff-lt-mul, mul-add-div, mul-add-mod-self-left, add-mod-right, add-mod-left}
+use native.Mathlib.Nat.{add-zero, mul-comm, mul-assoc, mul-suc, mul-le-mul-left, mod-lt, mod-eq-of-lt, div-eq-of-lt, div-add-mod, div-lt-iff-lt-mul, le-div-iff-mul-le, mul-add-div, mul-add-mod-self-left, add-mod-right, add-mod-left}
 use native.Mathlib.Omega.{arith}
 use native.Mathlib.Decide.{decLt}
 use lib.ListN.{getD}
@@ -86,6 +86,16 @@ module _ (N h : ℕ) (S : Sizes N h) (j : ℕ) (inside : j < N) where
       let less : t < 2 * h = mod-lt j (omega (arith, S .some)) in
       let B = in-block (t - h) (omega arith) in
       (h * q + (t - h), B .0, inr (omega (arith, B .1, div-add-mod j (2 * h))))
+
+-- a later pair's place is greater: the place of pair k is k + h · (k / h)
+later-place : (h : ℕ) → 1 ≤ h → (k k′ : ℕ) → k < k′ → placeOf h k < placeOf h k′
+later-place h some k k′ l =
+    let q = k / h in
+    let q′ = k′ / h in
+    let down : q * h ≤ k = omega (arith, mul-comm h q, div-add-mod k h) in
+    let less : q ≤ q′ = le-div-iff-mul-le {k = h} {x = q} {y = k′} some .1 (omega arith) in
+    let up : h * q ≤ h * q′ = mul-le-mul-left h less in
+    omega (arith, mul-assoc 2 h q, mul-assoc 2 h q′, div-add-mod k h, div-add-mod k′ h)
 
 -- ---- one pair: its results in the same places, all other numbers as they were
 module _ (N h re im p : ℕ) (some : 1 ≤ h) (inside : p + h < N) (s : Slots ℕ) where
@@ -180,5 +190,6 @@ layer-means =
     record {
       size = λ N h numbers factors. mapped-size (runPlain (layerActs N h factors) (plainStart numbers) .lent) (2 * N);
       pairs = λ N h numbers factors e. becomes N h (sizes N h e) numbers factors;
+      rising = λ N h e. later-place h (sizes N h e .some);
       places = λ N h e j inside. at-pair N h (sizes N h e) j inside (decLt (j % (2 * h)) h);
     }

@@ -60,5 +60,7 @@ pub record LayerMeans : Type 0 where
   -- "Each pair u, v, places p and p + h of a block, becomes u + w·v and u − w·v in the same places, with w as a + bi."
   pub pairs : (N h : ℕ) (numbers factors : List ℕ) → isLayer N h ≡ true → (k : ℕ) → k < N / 2
       → PairBecomes N h numbers factors (layerWords N h numbers factors) k
+  -- "pairs by rising place"
+  pub rising : (N h : ℕ) → isLayer N h ≡ true → (k k′ : ℕ) → k < k′ → placeOf h k < placeOf h k′
   -- every place is u's or v's of a pair
   pub places : (N h : ℕ) → isLayer N h ≡ true → (j : ℕ) → j < N → (k : ℕ) × (k < N / 2) × ((j ≡ placeOf h k) ⊎ (j ≡ placeOf h k + h))

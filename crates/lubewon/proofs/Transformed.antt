@@ -52,7 +52,7 @@ pair-becomes : {N h k : ℕ} {numbers factors after : List ℕ} → PairBecomes 
 pair-becomes h = record { plus-re = h .plus-re; plus-im = h .plus-im; minus-re = h .minus-re; minus-im = h .minus-im }
 
 layer-means : LayerMeans → LayerMeans
-layer-means h = record { size = h .size; pairs = h .pairs; places = h .places }
+layer-means h = record { size = h .size; pairs = h .pairs; rising = h .rising; places = h .places }
 
 -- a step of a call, over paired tapes for the whole list: the call's start, the words before its part and its part written out
 module _ (n : ℕ) (acts before : List Act) (o : Operation) (a b step : ℕ) (s s′ : Slots (List ℕ)) (H : CallHidden n acts before o a b step s s′) where
@@ -133,6 +133,9 @@ module _ (C : Claims) where
       getD (layerWords N h numbers factors) p 0
       ≡ sum (getD numbers p 0) (sum (product re (getD numbers (p + h) 0)) (flipped (product im (getD numbers (N + (p + h)) 0))))
   layer-plus N h numbers factors e k l = C .layer-means .pairs N h numbers factors e k l .plus-re
+
+  layer-rising : (N h : ℕ) → isLayer N h ≡ true → (k k′ : ℕ) → k < k′ → 2 * h * (k / h) + k % h < 2 * h * (k′ / h) + k′ % h
+  layer-rising = C .layer-means .rising
 
   layer-tape : (n N h : ℕ) (factors : List ℕ) → 2 ≤ n → n ≤ 8 → tapeFor n (layerActs N h factors) ≡ N / 2 * (842 * (n * (n - 1)))
   layer-tape n N h factors l m = let q = C .transforms .layer .tape n N h factors l m in q .0 ∙ q .1
