@@ -2,7 +2,7 @@
 -- lent words (Laid). What is proved of calculations made of calls: numbers stay n shares and hand on agreement in a share (Slots), they join
 -- (Joined), each call gives what it gives by itself (Called), each step is secret (Secret), tape words (Tape); and at the lent words of the
 -- complex product and a layer (Starts, Holds).
--- What a layer on plain words means (Means), and the worked examples (Examples).
+-- What a layer on plain words means (Means), what a complex product and a pair come to on shares (OnShares), and the worked examples (Examples).
 pub mod Powers
 pub mod Laws
 pub mod Laid
@@ -15,5 +15,6 @@ pub mod Tape
 pub mod Starts
 pub mod Holds
 pub mod Means
+pub mod OnShares
 pub mod Examples
 mod Plainly

@@ -1,15 +1,20 @@
 -- What a layer on plain words comes to in closed form. Calls' `layerWords` is defined by acts done one after another; document 02, No. 5, says
 -- what each pair becomes: "Each pair u, v, places p and p + h of a block, becomes u + w·v and u − w·v in the same places, with w as a + bi."
+-- And what the complex product and a pair come to on shares: which words of the tape each of their calls goes by.
 use mathlib.Core.Path.{_≡_}
 use mathlib.Core.Bool.{true}
 use mathlib.Core.List.{List}
 use mathlib.Core.Logic.{_⊎_}
 use Prim.Native.Nat.{ℕ, _+_, _*_, _/_, _<_}
-use lib.ListN.{length, getD}
+use lib.ListN.{length, getD, drop}
+use Rattle.masking.specs.Foretold.{foretoldTape}
 use Rattle.binary64.specs.Sum.{sum}
-use Rattle.complex.specs.Acts.{flipped}
-use Rattle.complex.specs.Complex.{complexRe, complexIm}
-use Rattle.complex.specs.Layer.{isLayer, placeOf, blockCount}
+use Rattle.plans.specs.ProductPlan.{productPlan}
+use Rattle.plans.specs.SumPlan.{sumPlan}
+use Rattle.execution.specs.Shares.{resultShares}
+use Rattle.complex.specs.Acts.{Slots, flipped, plainShares, flippedFirst, runShares}
+use Rattle.complex.specs.Complex.{slotA, slotB, slotC, slotD, slotRe, slotIm, complexActs, complexRe, complexIm}
+use Rattle.complex.specs.Layer.{isLayer, placeOf, blockCount, pairActs}
 use Rattle.complex.specs.Calls.{layerWords}
 
 -- The pair of number k, by rising place, among numbers and after.
@@ -64,3 +69,57 @@ pub record LayerMeans : Type 0 where
   pub rising : (N h : ℕ) → isLayer N h ≡ true → (k k′ : ℕ) → k < k′ → placeOf h k < placeOf h k′
   -- every place is u's or v's of a pair
   pub places : (N h : ℕ) → isLayer N h ≡ true → (j : ℕ) → j < N → (k : ℕ) × (k < N / 2) × ((j ≡ placeOf h k) ⊎ (j ≡ placeOf h k + h))
+
+-- ---- on n shares: "The shares are those of our calls on shares, one after another on the tape"
+
+module _ (n : ℕ) (tape : List ℕ) where
+  -- tape words of a product and of a sum
+  abbrev pub productTape : ℕ
+  productTape = foretoldTape n productPlan
+
+  abbrev pub sumTape : ℕ
+  sumTape = foretoldTape n sumPlan
+
+  -- a product and a sum over the tape from word t on
+  abbrev pub productFrom : ℕ → List ℕ → List ℕ → List ℕ
+  productFrom t x y = resultShares productPlan n x y (drop t tape)
+
+  abbrev pub sumFrom : ℕ → List ℕ → List ℕ → List ℕ
+  sumFrom t x y = resultShares sumPlan n x y (drop t tape)
+
+  -- "products in the order ac, bd, ad, bc, then the real sum, the imaginary sum"
+  abbrev pub reFrom : List ℕ → List ℕ → List ℕ → List ℕ → List ℕ
+  reFrom a b c d = sumFrom (4 * productTape) (productFrom 0 a c) (flippedFirst (productFrom productTape b d))
+
+  abbrev pub imFrom : List ℕ → List ℕ → List ℕ → List ℕ → List ℕ
+  imFrom a b c d = sumFrom (4 * productTape + sumTape) (productFrom (2 * productTape) a d) (productFrom (3 * productTape) b c)
+
+  module _ (s : Slots (List ℕ)) where
+    pub record ComplexComesTo : Type 0 where
+      pub re : runShares n complexActs tape s .held slotRe ≡ reFrom (s .held slotA) (s .held slotB) (s .held slotC) (s .held slotD)
+      pub im : runShares n complexActs tape s .held slotIm ≡ imFrom (s .held slotA) (s .held slotB) (s .held slotC) (s .held slotD)
+
+    -- the pair of u at place p, with the plain factor re + im·i
+    module _ (N h re im p : ℕ) where
+      abbrev pub pairAfter : Slots (List ℕ)
+      pairAfter = runShares n (pairActs N h re im p) tape s
+
+      -- w·v, "with w as a + bi"
+      abbrev pub wvReShares : List ℕ
+      wvReShares = reFrom (plainShares n re) (plainShares n im) (s .lent (p + h)) (s .lent (N + (p + h)))
+
+      abbrev pub wvImShares : List ℕ
+      wvImShares = imFrom (plainShares n re) (plainShares n im) (s .lent (p + h)) (s .lent (N + (p + h)))
+
+      -- "u plus and u minus, each real part first"
+      pub record PairComesTo : Type 0 where
+        pub plus-re : pairAfter .lent p ≡ sumFrom (4 * productTape + 2 * sumTape) (s .lent p) wvReShares
+        pub plus-im : pairAfter .lent (N + p) ≡ sumFrom (4 * productTape + 3 * sumTape) (s .lent (N + p)) wvImShares
+        pub minus-re : pairAfter .lent (p + h) ≡ sumFrom (4 * productTape + 4 * sumTape) (s .lent p) (flippedFirst wvReShares)
+        pub minus-im : pairAfter .lent (N + (p + h)) ≡ sumFrom (4 * productTape + 5 * sumTape) (s .lent (N + p)) (flippedFirst wvImShares)
+        -- all other numbers are as they were
+        pub others : (j : ℕ) → (j ≡ p → ⊥) → (j ≡ N + p → ⊥) → (j ≡ p + h → ⊥) → (j ≡ N + (p + h) → ⊥) → pairAfter .lent j ≡ s .lent j
+
+pub record OnSharesMeans : Type 0 where
+  pub complex : (n : ℕ) (tape : List ℕ) (s : Slots (List ℕ)) → ComplexComesTo n tape s
+  pub pair : (n : ℕ) (tape : List ℕ) (s : Slots (List ℕ)) (N h re im p : ℕ) → 0 < h → p + h < N → PairComesTo n tape s N h re im p

@@ -25,6 +25,7 @@ use Rattle.operations.proofs.Masked as operations
 use Rattle.splitting.proofs.SplitJoin as splitting
 use Rattle.complex.proofs.Holds as complex-numbers
 use Rattle.complex.proofs.Means as layer-meaning
+use Rattle.complex.proofs.OnShares as on-shares
 use Rattle.complex.proofs.Examples as worked-complex
 use Rattle.listing.proofs.Whole as listing
 use Rattle.listing.proofs.Example as listed
@@ -63,6 +64,7 @@ claims =
       split-joins = splitting.split-joins;
       transforms = complex-numbers.transforms;
       layer-means = layer-meaning.layer-means;
+      on-shares-means = on-shares.on-shares-means;
       pieces-are-listing = listing.pieces-are-listing;
       example = listed.example;
       word-examples = plain-examples.word-examples;

@@ -15,16 +15,18 @@ use Rattle.binary64.specs.Product.{product}
 use Rattle.binary64.specs.Sum.{sum}
 use Rattle.binary64.specs.Operations.{Operation}
 use Rattle.plans.specs.BuiltIns.{planOf}
-use Rattle.execution.specs.Shares.{placed, callAnswer, resultAfter}
+use Rattle.plans.specs.ProductPlan.{productPlan}
+use Rattle.plans.specs.SumPlan.{sumPlan}
+use Rattle.execution.specs.Shares.{placed, resultShares, callAnswer, resultAfter}
 use Rattle.splitting.specs.SplitJoin.{xorAll}
-use Rattle.complex.specs.Acts.{Act, Call, Slots, flipped, runPlain, tapeFor, runShares}
+use Rattle.complex.specs.Acts.{Act, Call, Slots, flipped, runPlain, plainShares, flippedFirst, tapeFor, runShares}
 use Rattle.complex.specs.Complex.{complexActs}
-use Rattle.complex.specs.Layer.{isLayer, layerActs}
+use Rattle.complex.specs.Layer.{isLayer, pairActs, layerActs}
 use Rattle.complex.specs.Layout.{numberOf, joinedWords}
 use Rattle.complex.specs.Calls.{complexStart, complexCallAnswer, complexResult, layerStart, layerCallAnswer, layerNumbers, layerWords, plainCallAnswer, plainNumbers}
 use Rattle.complex.specs.Secrecy.{Shared, AgreeIn, PutsWords, CallHidden}
 use Rattle.complex.specs.Holds.{joinedSlots, OperandsAgree, ComplexHolds, LayerHolds, Transforms}
-use Rattle.complex.specs.Means.{PairBecomes, LayerMeans}
+use Rattle.complex.specs.Means.{PairBecomes, LayerMeans, ComplexComesTo, PairComesTo, OnSharesMeans}
 use Rattle.lubewon.specs.Claims.{Claims}
 
 shared : {n : ℕ} {s : Slots (List ℕ)} → Shared n s → Shared n s
@@ -53,6 +55,15 @@ pair-becomes h = record { plus-re = h .plus-re; plus-im = h .plus-im; minus-re =
 
 layer-means : LayerMeans → LayerMeans
 layer-means h = record { size = h .size; pairs = h .pairs; rising = h .rising; places = h .places }
+
+complex-comes-to : {n : ℕ} {tape : List ℕ} {s : Slots (List ℕ)} → ComplexComesTo n tape s → ComplexComesTo n tape s
+complex-comes-to h = record { re = h .re; im = h .im }
+
+pair-comes-to : {n : ℕ} {tape : List ℕ} {s : Slots (List ℕ)} {N h re im p : ℕ} → PairComesTo n tape s N h re im p → PairComesTo n tape s N h re im p
+pair-comes-to h = record { plus-re = h .plus-re; plus-im = h .plus-im; minus-re = h .minus-re; minus-im = h .minus-im; others = h .others }
+
+on-shares-means : OnSharesMeans → OnSharesMeans
+on-shares-means h = record { complex = h .complex; pair = h .pair }
 
 -- a step of a call, over paired tapes for the whole list: the call's start, the words before its part and its part written out
 module _ (n : ℕ) (acts before : List Act) (o : Operation) (a b step : ℕ) (s s′ : Slots (List ℕ)) (H : CallHidden n acts before o a b step s s′) where
@@ -136,6 +147,19 @@ module _ (C : Claims) where
 
   layer-rising : (N h : ℕ) → isLayer N h ≡ true → (k k′ : ℕ) → k < k′ → 2 * h * (k / h) + k % h < 2 * h * (k′ / h) + k′ % h
   layer-rising = C .layer-means .rising
+
+  -- u − w·v on shares, its imaginary part: the last call of a pair, after four products and five sums
+  pair-minus : (n : ℕ) (tape : List ℕ) (s : Slots (List ℕ)) (N h re im p : ℕ) → 0 < h → p + h < N
+      → let P = foretoldTape n productPlan in
+      let S = foretoldTape n sumPlan in
+      let c = s .lent (p + h) in
+      let d = s .lent (N + (p + h)) in
+      runShares n (pairActs N h re im p) tape s .lent (N + (p + h))
+      ≡ resultShares sumPlan n (s .lent (N + p))
+      (flippedFirst (resultShares sumPlan n (resultShares productPlan n (plainShares n re) d (drop (2 * P) tape))
+      (resultShares productPlan n (plainShares n im) c (drop (3 * P) tape)) (drop (4 * P + S) tape)))
+      (drop (4 * P + 5 * S) tape)
+  pair-minus n tape s N h re im p some inside = C .on-shares-means .pair n tape s N h re im p some inside .minus-im
 
   layer-tape : (n N h : ℕ) (factors : List ℕ) → 2 ≤ n → n ≤ 8 → tapeFor n (layerActs N h factors) ≡ N / 2 * (842 * (n * (n - 1)))
   layer-tape n N h factors l m = let q = C .transforms .layer .tape n N h factors l m in q .0 ∙ q .1

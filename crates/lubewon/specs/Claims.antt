@@ -23,7 +23,7 @@ use Rattle.plans.specs.ProductRows.{ByRows}
 use Rattle.operations.specs.Masked.{Masked}
 use Rattle.splitting.specs.SplitJoin.{SplitJoins}
 use Rattle.complex.specs.Holds.{Transforms}
-use Rattle.complex.specs.Means.{LayerMeans}
+use Rattle.complex.specs.Means.{LayerMeans, OnSharesMeans}
 use Rattle.complex.specs.Examples.{ComplexExamples}
 use Rattle.listing.specs.Sharelist.{ExampleListed}
 use Rattle.listing.specs.Pieces.{PiecesAreListing}
@@ -65,8 +65,9 @@ pub record Claims : Type 0 where
   pub split-joins : SplitJoins
   -- complex product and layer on shares: joined results, tape words, and the secrecy of each step of each of their calls
   pub transforms : Transforms
-  -- what a layer makes of each pair, on plain words
+  -- what a layer makes of each pair, on plain words; what complex product and pair come to on shares, call by call on the tape
   pub layer-means : LayerMeans
+  pub on-shares-means : OnSharesMeans
   -- the listing in the pieces that `list_piece` writes, and document 01's example of it
   pub pieces-are-listing : PiecesAreListing
   pub example : ExampleListed
