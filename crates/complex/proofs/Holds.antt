@@ -15,7 +15,7 @@ use Rattle.binary64.specs.Operations.{Operation}
 use Rattle.plans.specs.BuiltIns.{planOf}
 use Rattle.splitting.specs.SplitJoin.{xorAll}
 use Rattle.complex.specs.Acts.{Act, Call, Slots, runPlain, tapeFor}
-use Rattle.complex.specs.Complex.{complexActs, complexRe, complexIm, slotRe}
+use Rattle.complex.specs.Complex.{complexActs, complexRe, complexIm, slotOfPart}
 use Rattle.complex.specs.Layer.{layerActs}
 use Rattle.complex.specs.Layout.{numberOf, asWords, joinedWords}
 use Rattle.complex.specs.Calls.{complexTape, complexStart, complexEnd, complexShares, layerTape, layerStart, layerEnd, layerShares, layerCallAnswer, layerNumbers, plainStart, layerWords, plainCallAnswer}
@@ -34,7 +34,7 @@ use Rattle.complex.proofs.Starts.{complex-shared, complex-agree, layer-
 module _ (n : ℕ) (least : 2 ≤ n) (most : n ≤ 8) (x y tape : List ℕ) (wx : Words x) (wy : Words y) (wt : Words tape) (enough : complexTape n ≤ length tape) where
   -- the result's numbers
   abbrev parts : ℕ → List ℕ
-  parts j = complexEnd n x y tape .held (slotRe + j)
+  parts j = complexEnd n x y tape .held (slotOfPart j)
 
   complex-joins : let a = xorAll (numberOf n 2 0 x) in let b = xorAll (numberOf n 2 1 x) in let c = xorAll (numberOf n 2 0 y) in let d = xorAll (numberOf n 2 1 y) in
       joinedWords n 2 (complexShares n x y tape) ≡ complexRe a b c d ∷ complexIm a b c d ∷ []
@@ -45,8 +45,8 @@ module _ (n : ℕ) (least : 2 ≤ n) (most : n ≤ 8) (x y tape : List ℕ) (wx 
       let S = complex-shared n x y wx wy in
       let E = acts-shared n least most complexActs begun tape tt S wt all in
       let joined = acts-join n least most complexActs tt begun S tape wt all in
-      let at : (j : ℕ) → j < 2 → xorAll (numberOf n 2 j (asWords n 2 parts)) ≡ runPlain complexActs (joinedSlots begun) .held (slotRe + j) =
-      λ j lj. ap xorAll (read-back n 2 parts j lj (E .held (slotRe + j) .size)) ∙ ap (λ (s : Slots ℕ). s .held (slotRe + j)) joined in
+      let at : (j : ℕ) → j < 2 → xorAll (numberOf n 2 j (asWords n 2 parts)) ≡ runPlain complexActs (joinedSlots begun) .held (slotOfPart j) =
+      λ j lj. ap xorAll (read-back n 2 parts j lj (E .held (slotOfPart j) .size)) ∙ ap (λ (s : Slots ℕ). s .held (slotOfPart j)) joined in
       ap₂ (λ (r i : ℕ). r ∷ i ∷ []) (at 0 (omega arith)) (at 1 (omega arith))
 
 complex-secret : (n : ℕ) → 2 ≤ n → n ≤ 8 → (o : Operation) (step : ℕ) → step < length (program n (planOf o)) → ComplexSecret n o step

@@ -13,14 +13,15 @@ use Rattle.plans.specs.BuiltIns.{planOf}
 use Rattle.execution.specs.Shares.{resultShares}
 
 pub data Act : Type 0 where
-  -- a plain word into a slot
+  -- Put slot word: a plain word into a slot
   Put : ℕ → ℕ → Act
-  -- the sign bit of a slot's number flipped
+  -- Flip slot: the sign bit of a slot's number flipped
   Flip : ℕ → Act
-  -- into a slot, a number of the lent ones; and in place of one, a slot's number
+  -- Load slot number: into a slot, a number of the lent ones
   Load : ℕ → ℕ → Act
+  -- Store number slot: in place of a number of the lent ones, a slot's
   Store : ℕ → ℕ → Act
-  -- a call: its operation, the slot of its result, and those of its operands, the first for register 0
+  -- Call operation result first second: a call, the slot of its result, and those of its operands, the first for register 0
   Call : Operation → ℕ → ℕ → ℕ → Act
 
 -- the numbers held in slots, and those that were lent

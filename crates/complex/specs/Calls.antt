@@ -13,7 +13,7 @@ use Rattle.masking.specs.Foretold.{foretoldTape}
 use Rattle.plans.specs.ProductPlan.{productPlan}
 use Rattle.plans.specs.SumPlan.{sumPlan}
 use Rattle.complex.specs.Acts.{Slots, runPlain, runShares}
-use Rattle.complex.specs.Complex.{operands, complexActs, slotRe}
+use Rattle.complex.specs.Complex.{operands, complexActs, slotOfPart}
 use Rattle.complex.specs.Layer.{isLayer, blockCount, layerActs}
 use Rattle.complex.specs.Layout.{numberOf, asWords}
 
@@ -39,7 +39,7 @@ complexEnd n x y tape = runShares n complexActs tape (complexStart n x y)
 
 -- the result's words: real part, imaginary part
 unfoldable pub complexShares : ℕ → List ℕ → List ℕ → List ℕ → List ℕ
-complexShares n x y tape = asWords n 2 (λ j. complexEnd n x y tape .held (slotRe + j))
+complexShares n x y tape = asWords n 2 (λ j. complexEnd n x y tape .held (slotOfPart j))
 
 module _ (n : ℕ) (x y result work tape : List ℕ) where
   abbrev pub complexCallAnswer : Answer

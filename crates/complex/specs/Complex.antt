@@ -1,7 +1,9 @@
 -- The complex product, document 02, No. 5: "real part ac − bd, imaginary part ad + bc, four products, then one sum each; a difference is a sum
 -- with the second's sign bit flipped in share 0". "products in the order ac, bd, ad, bc, then the real sum, the imaginary sum".
+use mathlib.Core.Bool.{cond}
 use mathlib.Core.List.{List, [], _∷_}
 use Prim.Native.Nat.{ℕ}
+use lib.Dec.{eqb}
 use Rattle.binary64.specs.Operations.{Product, Sum}
 use Rattle.binary64.specs.Product.{product}
 use Rattle.binary64.specs.Sum.{sum}
@@ -39,6 +41,10 @@ slotRe = 8
 
 abbrev pub slotIm : ℕ
 slotIm = 9
+
+-- of part 0, the real one, and of part 1
+abbrev pub slotOfPart : ℕ → ℕ
+slotOfPart j = cond (eqb j 0) slotRe slotIm
 
 abbrev pub complexActs : List Act
 complexActs =

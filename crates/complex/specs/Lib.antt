@@ -1,6 +1,6 @@
 -- Calculations made of calls: acts on numbers in slots, on plain words and on shares (Acts); the complex product and one layer of the
 -- transform as such lists (Complex, Layer); the lent words (Layout); the calls' answers and what they leave (Calls); what is proved (Secrecy,
--- Holds), and what a layer on plain words means (Means), with worked examples (Examples).
+-- Holds), what a layer on plain words means and what complex product and pair come to on shares (Means), with worked examples (Examples).
 -- Inner holds names that inner contracts cite.
 pub mod Acts
 pub mod Complex

@@ -1,11 +1,13 @@
 -- The complex product's operands taken from lent slices and its result put into one. Rests on Holding, InRow and complex's Laid.
 use mathlib.Core.Path.{_≡_, refl, ap, _∙_}
+use mathlib.Core.Bool.{Bool, true, false, cond}
 use mathlib.Core.List.{List}
-use Prim.Native.Nat.{ℕ, zero, suc, _+_, _*_, _≤_, _<_}
+use Prim.Native.Nat.{ℕ, zero, suc, _*_, _≤_, _<_}
 use native.Mathlib.Omega.{arith}
+use lib.Dec.{eqb}
 use lib.ListN.{length, replicate, length-replicate}
 use Rattle.complex.specs.Acts.{Slots, holding, lending}
-use Rattle.complex.specs.Complex.{slotA, slotB, slotC, slotD, slotRe, slotIm, complexActs}
+use Rattle.complex.specs.Complex.{slotA, slotB, slotC, slotD, slotRe, slotIm, slotOfPart, complexActs}
 use Rattle.complex.specs.Layout.{numberOf}
 use Rattle.complex.specs.Calls.{complexStart, complexEnd, complexShares}
 use Rattle.complex.proofs.Laid.{number-size, laid-out-is}
@@ -13,6 +15,13 @@ use Rattle.slots.specs.Inner.{slotAt, slotStep, heldOf, written, HeldIn, LentIn
 use Rattle.transform.specs.Inner.{PartsOut}
 use Rattle.slots.proofs.Holding.{held-written, lent-written}
 use Rattle.transform.proofs.InRow.{zeros-held}
+
+part-slot : (j : ℕ) → slotOfPart j < 16
+part-slot j = by (eqb j 0)
+  where
+    by : (b : Bool) → cond b slotRe slotIm < 16
+    by true = omega arith
+    by false = omega arith
 
 module _ (n : ℕ) (few : n ≤ 8) where
   -- a number of a lent slice into slot k
@@ -44,7 +53,7 @@ module _ (n : ℕ) (few : n ≤ 8) where
       let L₂ : LentIn n 2 r₂ (lending s₁ 1 (heldOf n slotIm work)) = rw e₂ (lent-written n 2 1 (omega arith) r₁ s₁ L₁ (heldOf n slotIm work) (number-size n slotStep (slotAt slotIm) work)) in
       record { size = L₂ .size; each = at s L₂ }
     where
-      at : (s : Slots (List ℕ)) → LentIn n 2 r₂ (lending (lending s 0 (heldOf n slotRe work)) 1 (heldOf n slotIm work)) → (j : ℕ) → j < 2 → numberOf n 2 j r₂ ≡ heldOf n (slotRe + j) work
+      at : (s : Slots (List ℕ)) → LentIn n 2 r₂ (lending (lending s 0 (heldOf n slotRe work)) 1 (heldOf n slotIm work)) → (j : ℕ) → j < 2 → numberOf n 2 j r₂ ≡ heldOf n (slotOfPart j) work
       at s L zero h = L .each 0 h
       at s L (suc zero) h = L .each 1 h
       at s L (suc (suc j)) h = absurd (omega arith)
@@ -54,4 +63,4 @@ module _ (n : ℕ) (few : n ≤ 8) where
       → result ≡ complexShares n x y tape
   unfolding complexShares
   result-is x y tape H D P =
-      laid-out-is n 2 _ (λ j. complexEnd n x y tape .held (slotRe + j)) (P .size) (λ j lj. P .each j lj ∙ D (complexStart n x y) H .each (slotRe + j) (omega arith))
+      laid-out-is n 2 _ (λ j. complexEnd n x y tape .held (slotOfPart j)) (P .size) (λ j lj. P .each j lj ∙ D (complexStart n x y) H .each (slotOfPart j) (part-slot j))
