@@ -75,7 +75,7 @@ size_t bad_share_count(void) {
     return bad_share_counts[below(COUNT(bad_share_counts))];
 }
 
-uint32_t lowest(unsigned mask, const uint32_t *numbers, size_t count) {
+uint32_t first_that_applies(unsigned mask, const uint32_t *numbers, size_t count) {
     for (size_t i = 0; i < count; i++)
         if (mask >> i & 1) return numbers[i];
     return 0;

@@ -20,7 +20,7 @@ size_t plan_with(uint32_t *plan, bool too_long, bool bad);
 
 size_t bad_share_count(void);
 
-/* The lowest condition of a combination is the number to expect: bit i of `mask` stands for numbers[i]. */
-uint32_t lowest(unsigned mask, const uint32_t *numbers, size_t count);
+/* The number to expect of a combination of conditions, the first that applies: bit i of `mask` stands for numbers[i]. */
+uint32_t first_that_applies(unsigned mask, const uint32_t *numbers, size_t count);
 
 #endif

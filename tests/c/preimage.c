@@ -49,9 +49,11 @@ static job set_up(size_t products, size_t n) {
     j.factors = grab(numbers), j.key = grab(numbers), j.plain = grab(numbers);
     j.x = grab(words), j.y = grab(words), j.t = grab(words);
     j.tape = grab(products * LUBEWON_COMPLEX_TAPE(n) * sizeof *j.tape);
+    lubewon_complex c = {0, 0}; /* one number of FFT(c)/q: its negative meets F, itself f */
     for (size_t k = 0; k < products; k++) {
-        uint64_t *x = j.x + 2 * n * k, *y = j.y + 2 * n * k;
-        j.factors[k] = (lubewon_complex){number_up_to(32), number_up_to(32)};
+        uint64_t *x = j.x + 2 * n * k, *y = j.y + 2 * n * k, sign = k % 2 == 0 ? (uint64_t)1 << 63 : 0;
+        if (k % 2 == 0) c = (lubewon_complex){number_up_to(32), number_up_to(32)};
+        j.factors[k] = (lubewon_complex){c.re ^ sign, c.im ^ sign};
         j.key[k] = (lubewon_complex){number_up_to(1024), number_up_to(1024)};
         for (size_t i = 0; i < 2 * n; i++) x[i] = 0;
         x[0] = j.factors[k].re, x[1] = j.factors[k].im;

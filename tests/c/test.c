@@ -2,7 +2,7 @@
  *
  * Each call gets its slices as copies with guard words on both sides; the reference works on a second copy, and afterwards both are
  * compared whole. So a check of a call covers the answer, the written words, the words that must stay, and the words beyond the ends.
- * Turn-downs are tried in every combination of their conditions: the lowest number must win, only that 7 comes right after 1. The random
+ * Turn-downs are tried in every combination of their conditions: the first that applies must win, by number but for 7, which comes right after 1. The random
  * numbers have a fixed seed. Prints a line for each group and leaves with 1 at the first failure. */
 #include <stdio.h>
 

@@ -64,7 +64,7 @@ static void test_in_place(const operation *op) {
                 lengths l = {x_len, x_len, REF_CELLS, need};
                 if (mask & 2) spoil(op, round, &l);
                 if (mask & 4) l.tape = round % 3 ? need - 1 : below(need);
-                turned_down(op, lowest(mask, numbers, 3), l);
+                turned_down(op, first_that_applies(mask, numbers, 3), l);
             }
     for (size_t n = 2; n <= 8; n++)
         for (int round = 0; round < 60; round++) {

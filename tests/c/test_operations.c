@@ -22,7 +22,7 @@ void test_split_and_join(void) {
             size_t tape_len = mask & 2 ? (mask & 1 || n < 2 ? 0 : below(n - 1)) : mask & 1 ? COUNT(tape) : n - 1 + below(3);
             fill(tape, COUNT(tape));
             fill(out, COUNT(out));
-            try_split(lowest(mask, numbers, 2), random_word(), tape, tape_len, out, n);
+            try_split(first_that_applies(mask, numbers, 2), random_word(), tape, tape_len, out, n);
         }
     for (size_t n = 2; n <= 8; n++)
         for (int round = 0; round < 500; round++) {
@@ -110,7 +110,7 @@ static void test_on_shares(const operation *op) {
                 if (mask & 4) l.tape = round % 3 ? need - 1 : below(need);
                 uint64_t *tape = grab(l.tape * sizeof *tape);
                 fill(x, 10), fill(y, 10), fill(result, 10), fill(work, COUNT(work)), fill(tape, l.tape);
-                try_on_shares(lowest(mask, numbers, 3), op, x, l.x, y, l.y, result, l.result, work, l.work, tape, l.tape);
+                try_on_shares(first_that_applies(mask, numbers, 3), op, x, l.x, y, l.y, result, l.result, work, l.work, tape, l.tape);
                 free(tape);
             }
     for (size_t n = 2; n <= 8; n++) {

@@ -84,7 +84,7 @@ static void measure_turn_downs(void) {
         for (int round = 0; round < 60; round++) {
             size_t n = mask & 1 ? bad_share_count() : 2 + below(7);
             size_t len = plan_with(plan, mask & 2, mask & 4);
-            try_measure(lowest(mask, numbers, 3), n, plan, len);
+            try_measure(first_that_applies(mask, numbers, 3), n, plan, len);
         }
     for (size_t n = 2; n <= 8; n++)
         for (size_t place = 0; place < 40; place++) { /* the first of several bad words */
@@ -137,7 +137,7 @@ static void translate_turn_downs(uint32_t *out) {
             size_t words = ref_measure(n, plan, len).words;
             size_t out_len = mask & 8 ? (words && below(2) ? words - 1 : words ? below(words) : 0) : words + below(9);
             for (size_t i = 0; i < out_len; i++) out[i] = (uint32_t)random_word();
-            try_translate(lowest(mask, numbers, 4), n, plan, len, out, out_len);
+            try_translate(first_that_applies(mask, numbers, 4), n, plan, len, out, out_len);
         }
 }
 
@@ -201,7 +201,7 @@ static void plain_run_turn_downs(void) {
         for (int round = 0; round < 100; round++) {
             size_t len = plan_with(plan, mask & 1, mask & 2);
             fill(cells, REF_CELLS);
-            try_plain_run(lowest(mask, numbers, 3), plan, len, cells, mask & 4 ? wrong[below(COUNT(wrong))] : REF_REGISTERS);
+            try_plain_run(first_that_applies(mask, numbers, 3), plan, len, cells, mask & 4 ? wrong[below(COUNT(wrong))] : REF_REGISTERS);
         }
     for (size_t place = 0; place < 64; place++) {
         random_plan(plan, 64);

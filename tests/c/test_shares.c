@@ -27,7 +27,7 @@ static void share_run_turn_downs(uint32_t *program, const uint64_t *tape) {
             else if (mask & 8) tape_place = below(2) ? tape_len + 1 : SIZE_MAX;
             if (mask & 1) tape_len = mask & 16 ? 0 : TAPE, budget = mask & 16 ? 1 : below(500);
             fill(cells, COUNT(cells));
-            try_share_run(lowest(mask, numbers, 5), words, len, place, tape, tape_len, tape_place, budget, cells,
+            try_share_run(first_that_applies(mask, numbers, 5), words, len, place, tape, tape_len, tape_place, budget, cells,
                           mask & 4 ? wrong[below(COUNT(wrong))] : REF_CELLS);
             if (mask & 2) *spoilt = good;
             words[0] = first;
@@ -101,7 +101,7 @@ void test_one_share_step(void) {
             if (mask & 4) tape_place = below(2) ? tape_len + 1 : SIZE_MAX;
             if (mask & 1) word = bad_share_word();
             fill(cells, COUNT(cells));
-            try_one_share_step(lowest(mask, numbers, 4), word, tape, tape_len, tape_place, cells,
+            try_one_share_step(first_that_applies(mask, numbers, 4), word, tape, tape_len, tape_place, cells,
                                mask & 2 ? wrong[below(COUNT(wrong))] : REF_CELLS);
         }
     for (int round = 0; round < 2000; round++) { /* the end of the tape is a place for every word but RAND */

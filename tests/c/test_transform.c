@@ -163,7 +163,7 @@ void test_layer(void) {
             size s = random_size(mask & 1);
             lengths l = right_lengths(1, s);
             if (mask & 2) spoil(round % 2 ? 3 : round / 2 % 2, &l);
-            plain_layer_turned_down(lowest(mask, numbers, 2), s, l);
+            plain_layer_turned_down(first_that_applies(mask, numbers, 2), s, l);
         }
     for (size_t count = 2; count <= LUBEWON_LAYER_MOST; count *= 2)
         for (size_t distance = 1; distance < count; distance *= 2)
@@ -232,7 +232,7 @@ static void complex_product_turned_down(unsigned mask, size_t n, int round) {
     static const uint32_t numbers[] = {1, 4, 6};
     static uint64_t tape[LUBEWON_COMPLEX_TAPE(10)];
     size_t words = n <= 10 ? 2 * n : 4, tape_len = n <= 10 ? LUBEWON_COMPLEX_TAPE(n) : LUBEWON_COMPLEX_TAPE(2);
-    uint32_t number = lowest(mask, numbers, 3);
+    uint32_t number = first_that_applies(mask, numbers, 3);
     operands o = {.x_len = words, .y_len = words, .result_len = words, .work_len = LUBEWON_WORK}, before;
     fill(o.x, 21), fill(o.y, 21), fill(o.result, 21), fill(o.work, LUBEWON_WORK + 1);
     if (mask & 2) spoil_operands(round, &o);
@@ -325,7 +325,7 @@ static void layers_turned_down(void) {
                 lengths l = right_lengths(told, s);
                 if (mask & 4) spoil(round, &l);
                 if (mask & 8 && l.tape) l.tape = round % 3 ? l.tape - 1 : below(l.tape);
-                layer_turned_down(lowest(mask, numbers, 4), told, s, l);
+                layer_turned_down(first_that_applies(mask, numbers, 4), told, s, l);
             }
     for (size_t i = 0; i < COUNT(wrong_sizes); i++) layer_turned_down(7, 2, wrong_sizes[i], right_lengths(2, wrong_sizes[i]));
     for (size_t distance = 1; distance <= 1024; distance *= 32) { /* too many numbers, and nothing else wrong */

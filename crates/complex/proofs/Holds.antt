@@ -2,8 +2,8 @@
 -- Called, Secret), at the slots that these calls start from (Starts), with their tape words (Tape). Rests on Answered for what a done call was given,
 -- and on Laid for reading results.
 use mathlib.Core.Path.{_≡_, refl, sym, ap, ap₂, subst, _∙_}
-use mathlib.Core.List.{List, [], _∷_, _++_}
-use Prim.Native.Nat.{ℕ, _+_, _*_, _≤_, _<_}
+use mathlib.Core.List.{List, [], _∷_}
+use Prim.Native.Nat.{ℕ, _*_, _≤_, _<_}
 use native.Mathlib.Omega.{arith}
 use lib.ListN.{length}
 use borrow.Author.Tests.{eq-eqb}
@@ -14,7 +14,7 @@ use Rattle.masking.specs.Machine.{Words}
 use Rattle.binary64.specs.Operations.{Operation}
 use Rattle.plans.specs.BuiltIns.{planOf}
 use Rattle.splitting.specs.SplitJoin.{xorAll}
-use Rattle.complex.specs.Acts.{Act, Call, Slots, runPlain, tapeFor}
+use Rattle.complex.specs.Acts.{Act, Slots, runPlain, tapeFor}
 use Rattle.complex.specs.Complex.{complexActs, complexRe, complexIm, slotOfPart}
 use Rattle.complex.specs.Layer.{layerActs}
 use Rattle.complex.specs.Layout.{numberOf, asWords, joinedWords}

@@ -54,9 +54,6 @@ module _ (n S : ℕ) (f : ℕ → List ℕ) where
   pub laid-size : length (asWords n S f) ≡ S * n
   laid-size = mapped-size word (S * n)
 
-  pub laid-words : ((j : ℕ) → Words (f j)) → Words (asWords n S f)
-  laid-words w = mapped-words word (S * n) (λ k. w (k % S) (k / S))
-
   pub laid-at : (i j : ℕ) → i < n → j < S → getD (asWords n S f) (S * i + j) 0 ≡ getD (f j) i 0
   laid-at i j li lj =
       let up : S * suc i ≤ S * n = mul-le-mul-left S li in

@@ -1,7 +1,7 @@
 -- Document 01's table of turn-downs: its six examples, each at a call that takes the number; and document 02's 7, of which it says "it comes
 -- right after 1".
 use mathlib.Core.Path.{_≡_}
-use mathlib.Core.List.{List, [], _∷_}
+use mathlib.Core.List.{[], _∷_}
 use Prim.Native.Nat.{ℕ}
 use lib.ListN.{replicate}
 use Rattle.checks.specs.Answers.{refused, badAt}

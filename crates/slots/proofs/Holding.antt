@@ -35,9 +35,6 @@ read-other n step at l l′ h =
 
 -- ---- slots
 module _ (n : ℕ) (few : n ≤ 8) where
-  slot-inside : (k : ℕ) → k < 16 → Inside n slotStep (slotAt k) 512
-  slot-inside k h i l = omega arith
-
   module _ (k : ℕ) (lk : k < 16) (work : List ℕ) (s : Slots (List ℕ)) (H : HeldIn n work s) where
     -- a number written into slot k
     pub held-written : (xs : List ℕ) → length xs ≡ n → HeldIn n (written slotStep (slotAt k) 0 xs work) (holding s k xs)

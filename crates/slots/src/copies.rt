@@ -1,4 +1,5 @@
-// A number's shares copied from one place to another. They lie a step apart on both sides, so that no two of them are moved together.
+// A number's shares copied from one place to another, one by one. A secret number's lie a step apart on both sides, so that no instruction moves
+// two of them.
 ghost use mathlib.Core.Path.{_≡_};
 ghost use Prim.Native.Nat.{_≤_};
 ghost use lib.ListN.{length};

@@ -53,7 +53,7 @@ pub fn layer(
     ensures work { λ _. ⌜ now (work .exit) ≡ layerWork n count distance (now (numbers .entry)) (now (factors .entry)) (now (work .entry)) (now (tape .entry)) ⌝ }
     ensures holds { λ _. ⌜ Transforms ⌝ }
 {
-    let answer = layer_answer(
+    let checked = layer_answer(
         n,
         count,
         distance,
@@ -62,8 +62,8 @@ pub fn layer(
         work.len(),
         tape.len(),
     );
-    if answer.number == 0 {
+    if checked.number == 0 {
         layer_done(n, count, distance, numbers, factors, work, tape);
     }
-    answer
+    checked
 }
