@@ -34,5 +34,6 @@ complex-examples =
       im = refl;
       one-pair = refl;
       flipped-first = refl;
+      flipped-in-both = refl;
       plain-factor = refl;
     }

@@ -4,7 +4,8 @@ use mathlib.Core.Path.{_≡_}
 use mathlib.Core.Bool.{true, false}
 use mathlib.Core.List.{[], _∷_, map}
 use Rattle.masking.specs.Translation.{upFrom}
-use Rattle.complex.specs.Acts.{plainShares, flippedFirst}
+use Rattle.splitting.specs.SplitJoin.{xorAll}
+use Rattle.complex.specs.Acts.{plainShares, flipped, flippedFirst}
 use Rattle.complex.specs.Complex.{complexRe, complexIm}
 use Rattle.complex.specs.Layer.{isLayer, pairActs, placeOf, pairOf}
 use Rattle.complex.specs.Layout.{numberOf, asWords}
@@ -41,5 +42,7 @@ pub record ComplexExamples : Type 0 where
       ≡ 0xC010000000000000 ∷ 0x4018000000000000 ∷ 0x4024000000000000 ∷ 0xC024000000000000 ∷ []
   -- "flipped in share 0", and in no other
   pub flipped-first : flippedFirst (1 ∷ 2 ∷ []) ≡ 0x8000000000000001 ∷ 2 ∷ []
+  -- flipped in share 1 as well, the number would keep its sign
+  pub flipped-in-both : xorAll (flipped 1 ∷ flipped 2 ∷ []) ≡ xorAll (1 ∷ 2 ∷ [])
   -- "share 0 with zeros beside it"
   pub plain-factor : plainShares 3 7 ≡ 7 ∷ 0 ∷ 0 ∷ []
