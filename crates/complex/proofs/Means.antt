@@ -16,7 +16,7 @@ use Rattle.complex.specs.Layer.{blockCount, placeOf, pairActs, pairOf, f
 use Rattle.complex.specs.Calls.{plainStart, layerWords}
 use Rattle.complex.specs.Means.{PairBecomes, LayerMeans}
 use Rattle.complex.proofs.Laws.{plain-append}
-use Rattle.complex.proofs.Powers.{Sizes, sizes, Placed, pair-placed}
+use Rattle.complex.proofs.Powers.{Sizes, sizes, powers, every, Placed, pair-placed}
 use Rattle.complex.proofs.Laid.{mapped-at, mapped-size}
 
 -- ---- the pair of a place
@@ -191,5 +191,7 @@ layer-means =
       size = λ N h numbers factors. mapped-size (runPlain (layerActs N h factors) (plainStart numbers) .lent) (2 * N);
       pairs = λ N h numbers factors e. becomes N h (sizes N h e) numbers factors;
       rising = λ N h e. later-place h (sizes N h e .some);
+      powers = powers;
+      every = every;
       places = λ N h e j inside. at-pair N h (sizes N h e) j inside (decLt (j % (2 * h)) h);
     }

@@ -1,4 +1,4 @@
--- The sizes of a layer: N and h are powers of two, so blocks of 2h fill N; where a pair and its block's factor lie.
+-- The sizes of a layer: N and h are powers of two (`powers`, and `every`, that all such are taken), so blocks of 2h fill N; where a pair and its block's factor lie.
 use mathlib.Core.Path.{_≡_, refl, sym, ap, _∙_}
 use mathlib.Core.Bool.{Bool, true, false, _&&_, _||_}
 use mathlib.Core.List.{List, _∷_, map}
@@ -10,7 +10,7 @@ use native.Mathlib.Omega.{arith}
 use native.Mathlib.Decide.{decLt}
 use lib.Dec.{eqb, leb, ltb}
 use lib.Pow.{pow-pos, pow-mono, pow-add}
-use borrow.Author.Tests.{eqb-true, leb-true, ltb-true}
+use borrow.Author.Tests.{eqb-true, leb-true, ltb-true, eq-eqb, le-leb, lt-ltb}
 use Rattle.masking.specs.Translation.{upFrom}
 use Rattle.complex.specs.Layer.{oneOf, isPowerOfTwo, isLayer, blockCount, placeOf}
 
@@ -79,16 +79,48 @@ of-powers N h a b eN eh least most below = by (decLt b a)
           halves = ap (λ (x : ℕ). x * h) q ∙ sym half;
         }
 
-pub sizes : (N h : ℕ) → isLayer N h ≡ true → Sizes N h
+pub powers : (N h : ℕ) → isLayer N h ≡ true → (a : ℕ) × (b : ℕ) × (N ≡ 2 ^ a) × (h ≡ 2 ^ b) × (2 ≤ N) × (N ≤ 1024) × (h < N)
 unfolding isLayer
-sizes N h e =
+powers N h e =
     let p = both (isPowerOfTwo N) _ e in
     let q = both (isPowerOfTwo h) _ (p .1) in
     let l = both (leb 2 N) _ (q .1) in
     let m = both (leb N 1024) (ltb h N) (l .1) in
     let a = a-power N 0 11 (p .0) in
     let b = a-power h 0 11 (q .0) in
-    of-powers N h (a .0) (b .0) (a .1) (b .1) (leb-true 2 N (l .0)) (leb-true N 1024 (m .0)) (ltb-true h N (m .1))
+    (a .0, b .0, a .1, b .1, leb-true 2 N (l .0), leb-true N 1024 (m .0), ltb-true h N (m .1))
+
+pub sizes : (N h : ℕ) → isLayer N h ≡ true → Sizes N h
+sizes N h e = let p = powers N h e in of-powers N h (p .0) (p .1) (p .2) (p .3) (p .4) (p .5) (p .6)
+
+-- each power among the list is found
+found : (e s c : ℕ) → s ≤ e → e < s + c → oneOf (2 ^ e) (map (λ e. 2 ^ e) (upFrom s c)) ≡ true
+found e s zero lo hi = absurd (omega arith)
+found e s (suc c) lo hi =
+    ⊎-elim (λ (q : s ≡ e). rw (eq-eqb (2 ^ e) (2 ^ s) (ap (λ (x : ℕ). 2 ^ x) (sym q))))
+    (λ (q : suc s ≤ e). or-true (eqb (2 ^ e) (2 ^ s)) (found e (suc s) c q (omega arith))) (from (decLt s e))
+  where
+    from : Dec (s < e) → (s ≡ e) ⊎ (suc s ≤ e)
+    from (yes q) = inr (omega arith)
+    from (no q) = inl (omega arith)
+
+    or-true : (p : Bool) {q : Bool} → q ≡ true → p || q ≡ true
+    or-true true h = refl
+    or-true false h = h
+
+-- 2^e up to 1,024 is a power of two
+power-found : (e : ℕ) → 2 ^ e ≤ 1024 → isPowerOfTwo (2 ^ e) ≡ true
+power-found e h = by (decLt e 11)
+  where
+    by : Dec (e < 11) → isPowerOfTwo (2 ^ e) ≡ true
+    by (yes q) = found e 0 11 (omega arith) (omega arith)
+    by (no q) = let m : 2 ^ 11 ≤ 2 ^ e = pow-mono {i = 11} (omega arith) in absurd (omega arith)
+
+pub every : (a b : ℕ) → 2 ≤ 2 ^ a → 2 ^ a ≤ 1024 → 2 ^ b < 2 ^ a → isLayer (2 ^ a) (2 ^ b) ≡ true
+unfolding isLayer
+every a b least most below =
+    sym (go-on (power-found a most) (go-on (power-found b (omega arith))
+    (go-on (le-leb 2 (2 ^ a) least) (go-on (le-leb (2 ^ a) 1024 most) (sym (lt-ltb (2 ^ b) (2 ^ a) below))))))
 
 -- where pair k lies
 pub record Placed (N h k : ℕ) : Type 0 where

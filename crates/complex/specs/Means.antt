@@ -5,7 +5,7 @@ use mathlib.Core.Path.{_≡_}
 use mathlib.Core.Bool.{true}
 use mathlib.Core.List.{List}
 use mathlib.Core.Logic.{_⊎_}
-use Prim.Native.Nat.{ℕ, _+_, _*_, _/_, _<_}
+use Prim.Native.Nat.{ℕ, _+_, _*_, _/_, _^_, _≤_, _<_}
 use lib.ListN.{length, getD, drop}
 use Rattle.masking.specs.Foretold.{foretoldTape}
 use Rattle.binary64.specs.Sum.{sum}
@@ -67,6 +67,9 @@ pub record LayerMeans : Type 0 where
       → PairBecomes N h numbers factors (layerWords N h numbers factors) k
   -- "pairs by rising place"
   pub rising : (N h : ℕ) → isLayer N h ≡ true → (k k′ : ℕ) → k < k′ → placeOf h k < placeOf h k′
+  -- a layer's sizes are those of the sentence, 7 "when N or h is not a power of two, N is outside 2..1,024 or h is not below N", and all of them
+  pub powers : (N h : ℕ) → isLayer N h ≡ true → (a : ℕ) × (b : ℕ) × (N ≡ 2 ^ a) × (h ≡ 2 ^ b) × (2 ≤ N) × (N ≤ 1024) × (h < N)
+  pub every : (a b : ℕ) → 2 ≤ 2 ^ a → 2 ^ a ≤ 1024 → 2 ^ b < 2 ^ a → isLayer (2 ^ a) (2 ^ b) ≡ true
   -- every place is u's or v's of a pair
   pub places : (N h : ℕ) → isLayer N h ≡ true → (j : ℕ) → j < N → (k : ℕ) × (k < N / 2) × ((j ≡ placeOf h k) ⊎ (j ≡ placeOf h k + h))
 

@@ -54,7 +54,7 @@ pair-becomes : {N h k : ℕ} {numbers factors after : List ℕ} → PairBecomes 
 pair-becomes h = record { plus-re = h .plus-re; plus-im = h .plus-im; minus-re = h .minus-re; minus-im = h .minus-im }
 
 layer-means : LayerMeans → LayerMeans
-layer-means h = record { size = h .size; pairs = h .pairs; rising = h .rising; places = h .places }
+layer-means h = record { size = h .size; pairs = h .pairs; rising = h .rising; powers = h .powers; every = h .every; places = h .places }
 
 complex-comes-to : {n : ℕ} {tape : List ℕ} {s : Slots (List ℕ)} → ComplexComesTo n tape s → ComplexComesTo n tape s
 complex-comes-to h = record { re = h .re; im = h .im }
