@@ -169,29 +169,23 @@ typedef enum { OPERATION, SHARE_WORD, PLAIN_OPERATION, LAYER, PLAIN_LAYER } unit
 enum { SIDES = 3 };
 static const char *const side_names[SIDES] = {"library", "straight", "base"};
 
-#define ON_SHARES(op) {op##_shares_library, op##_shares_straight, op##_shares_base}
-#define PLAIN(op) {op##_plain_library, NULL, op##_plain_base}
+#define ON_SHARES(name, op, per) {name " on shares", {op##_shares_library, op##_shares_straight, op##_shares_base}, per}
+#define PLAIN(name, op, per) {"plain " name, {op##_plain_library, NULL, op##_plain_base}, per}
+#define EACH_OPERATION(row, per) \
+    row("product", product, per), row("sum", sum, per), row("floor", floor, per), row("truncate", truncate, per), row("nearest", nearest, per)
 static const struct {
     const char *name;
     void (*sides[SIDES])(void);
     unit per;
 } cases[] = {
-    {"product on shares", ON_SHARES(product), OPERATION},
-    {"sum on shares", ON_SHARES(sum), OPERATION},
-    {"floor on shares", ON_SHARES(floor), OPERATION},
-    {"truncate on shares", ON_SHARES(truncate), OPERATION},
-    {"nearest on shares", ON_SHARES(nearest), OPERATION},
-    {"complex product on shares", ON_SHARES(complex), OPERATION},
-    {"layer pair on shares", ON_SHARES(layer), LAYER},
+    EACH_OPERATION(ON_SHARES, OPERATION),
+    ON_SHARES("complex product", complex, OPERATION),
+    ON_SHARES("layer pair", layer, LAYER),
     {"share run, per word", {run_library, NULL, run_base}, SHARE_WORD},
     {"translate, per share word", {translate_library, NULL, translate_base}, SHARE_WORD},
-    {"plain product", PLAIN(product), PLAIN_OPERATION},
-    {"plain sum", PLAIN(sum), PLAIN_OPERATION},
-    {"plain floor", PLAIN(floor), PLAIN_OPERATION},
-    {"plain truncate", PLAIN(truncate), PLAIN_OPERATION},
-    {"plain nearest", PLAIN(nearest), PLAIN_OPERATION},
-    {"plain complex product", PLAIN(complex), PLAIN_OPERATION},
-    {"plain layer pair", PLAIN(layer), PLAIN_LAYER},
+    EACH_OPERATION(PLAIN, PLAIN_OPERATION),
+    PLAIN("complex product", complex, PLAIN_OPERATION),
+    PLAIN("layer pair", layer, PLAIN_LAYER),
 };
 
 static double units(unit per) {
