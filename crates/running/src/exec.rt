@@ -3,8 +3,8 @@
 ghost use mathlib.Core.Path.{_≡_};
 ghost use mathlib.Core.List.{[], _∷_};
 ghost use Prim.Native.Nat.{_+_, _≤_};
-ghost use lib.ListN.{length, set};
-ghost use Rattle.word.specs.Encoding.{fieldD, kindOf};
+ghost use lib.ListN.{getD, length, set};
+ghost use Rattle.word.specs.Encoding.{fieldA, fieldB, fieldD, kindOf};
 ghost use Rattle.masking.specs.Machine as machine;
 ghost use Rattle.running.specs.Good.{AllGood, GoodWord};
 use word::step_word::StepWord;
@@ -23,25 +23,38 @@ pub fn rands(words: &[u32]) -> usize
     count
 }
 
-// What a good word that is no RAND sets its cell to, on 512 cells, by its kind and fields.
-fn value(w: u32, cells: &[u64]) -> u64
-    requires { ⌜ (length (now cells) ≡ 512) × (GoodWord w × (kindOf w ≡ 9 → ⊥)) ⌝ }
+// The cell that field a names, of 512.
+fn at_a(w: u32, cells: &[u64]) -> u64
+    requires { ⌜ length (now cells) ≡ 512 ⌝ }
+    ensures { λ r. ⌜ r ≡ getD (now (cells .entry)) (fieldA w) 0 ⌝ }
+{
+    let a = ((w >> StepWord::A_AT) % StepWord::FIELD) as usize;
+    cells[a]
+}
+
+// The cell that field b names.
+fn at_b(w: u32, cells: &[u64]) -> u64
+    requires { ⌜ length (now cells) ≡ 512 ⌝ }
+    ensures { λ r. ⌜ r ≡ getD (now (cells .entry)) (fieldB w) 0 ⌝ }
+{
+    let b = (w % StepWord::FIELD) as usize;
+    cells[b]
+}
+
+// What a good word that is no RAND sets its cell to, on 512 cells, by its kind and fields. Each arm reads the cells that it needs and nothing
+// comes before the match, so that all kinds, with RAND below, are told apart by one jump.
+fn value(kind: u32, w: u32, cells: &[u64]) -> u64
+    requires { ⌜ (length (now cells) ≡ 512) × ((kind ≡ kindOf w) × (GoodWord w × (kind ≡ 9 → ⊥))) ⌝ }
     ensures { λ r. ⌜ set (now (cells .entry)) (fieldD w) r ≡ machine.exec (w ∷ []) [] (now (cells .entry)) ⌝ }
 {
-    let kind = w >> StepWord::KIND_AT;
-    if kind == StepWord::CONST {
-        return (w % StepWord::NUMBERS) as u64;
-    }
-    let a = ((w >> StepWord::A_AT) % StepWord::FIELD) as usize;
-    let b = (w % StepWord::FIELD) as usize;
-    let x = cells[a];
     match kind {
-        StepWord::XOR => x ^ cells[b],
-        StepWord::AND => x & cells[b],
-        StepWord::NOT => !x,
-        StepWord::SHL => x << ((w % StepWord::FIELD) % StepWord::SHIFTS),
-        StepWord::SHR => x >> ((w % StepWord::FIELD) % StepWord::SHIFTS),
-        _ => (x % 2) * u64::MAX,
+        StepWord::CONST => (w % StepWord::NUMBERS) as u64,
+        StepWord::XOR => at_a(w, cells) ^ at_b(w, cells),
+        StepWord::AND => at_a(w, cells) & at_b(w, cells),
+        StepWord::NOT => !at_a(w, cells),
+        StepWord::SHL => at_a(w, cells) << ((w % StepWord::FIELD) % StepWord::SHIFTS),
+        StepWord::SHR => at_a(w, cells) >> ((w % StepWord::FIELD) % StepWord::SHIFTS),
+        _ => (at_a(w, cells) % 2) * u64::MAX,
     }
 }
 
@@ -53,12 +66,13 @@ pub fn exec(words: &[u32], tape: &[u64], cells: &mut [u64])
     let mut t = 0;
     for i in 0..words.len() {
         let w = words[i];
+        let kind = w >> StepWord::KIND_AT;
         let d = ((w >> StepWord::D_AT) % StepWord::FIELD) as usize;
-        if w >> StepWord::KIND_AT == StepWord::RAND {
+        if kind == StepWord::RAND {
             cells[d] = tape[t];
             t += 1;
         } else {
-            cells[d] = value(w, cells);
+            cells[d] = value(kind, w, cells);
         }
     }
 }

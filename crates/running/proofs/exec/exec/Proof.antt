@@ -38,7 +38,7 @@ shared-slice-read-cells c =
 value-requires : tie.Need-value-requires Inv-loop μ-loop
 value-requires c κs =
     let l = c .before .before .before .before .loop in
-    (l .inv .2 ∙ c .before .before .before .before .before .before .before .before .pre .1 .0, (c .before .before .before .before .before .before .before .before .pre .1 .1 (l .i) (omega arith), c .before .if1 .left))
+    (l .inv .2 ∙ c .before .before .before .before .before .before .before .before .pre .1 .0, (refl, (c .before .before .before .before .before .before .before .before .pre .1 .1 (l .i) (omega arith), c .before .if1 .left)))
 
 loop-again : tie.Need-loop-again Inv-loop μ-loop
 loop-again c =
