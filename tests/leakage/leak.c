@@ -60,8 +60,6 @@ static void run_all(const call_row *call, long runs) {
         count(group);
     }
     if (!end_counts()) fail("the path is not the same in all runs", 0);
-    for (size_t s = 0; s < steps; s++)
-        if (two_at_once(s)) fail("two words that vary are written at once, which the statistics do not compare together,", path[s].at);
     replayed = (double)steps * (double)runs / (seconds() - start);
 }
 

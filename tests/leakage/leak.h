@@ -58,8 +58,7 @@ void start_counts(void); /* with before and after of one run as the words to dif
 void count(int group);   /* a run more; group 0 fixed, 1 random */
 bool end_counts(void);   /* false if a slot that leads the way differed from the first run's */
 double threshold(void);
-double t_of_step(size_t s, int kind); /* the largest |t| of its slots' bits and weights */
-bool two_at_once(size_t s);           /* whether it writes 16 bytes of which both halves vary: two shares could stand side by side */
+double t_of_step(size_t s, int kind); /* the largest |t| of its slots' bits and weights, and of two halves exclusive-or each other */
 
 /* ---- Calls ---- */
 typedef struct {

@@ -5,5 +5,5 @@ pub mod Filling
 pub mod Plans
 pub mod Answering
 pub mod Acting
-mod OneOperand
+pub mod OneOperand
 pub mod Beside

@@ -1,46 +1,24 @@
--- A plan's words done one after the other, and the share run that the result is defined by. Rests on masking's InARow and Counts.
+-- The share run that a call's result is defined by, and a plan's words done on the cells, which leave the same. Rests on masking's InARow and Counts.
 use mathlib.Core.Path.{_≡_, refl, sym, ap, ap₂, _∙_}
-use mathlib.Core.List.{List, _∷_, _++_}
-use Prim.Native.Nat.{ℕ, _+_, _-_, _≤_, _<_, min}
-use native.Mathlib.Numerals.{add-one}
+use mathlib.Core.List.{List}
+use Prim.Native.Nat.{ℕ, _-_, _≤_, min}
 use native.Mathlib.Omega.{arith}
-use lib.ListN.{length, getD, drop, replicate, length-replicate}
-use lib.Seq.{drop-cons, take-all}
-use Rattle.word.specs.declared.step.Step.{Step}
-use Rattle.word.specs.declared.step.Decoded.{Decoded}
-use Rattle.word.specs.declared.step.Decoded.the-variants.{Good, Bad}
+use lib.ListN.{length, replicate, length-replicate}
+use lib.Seq.{take-all}
 use Rattle.checks.specs.declared.answer.Answer.{Answer}
-use Rattle.word.specs.Encoding.{planStep}
-use Rattle.checks.specs.Answers.{firstBad, done, afterCall}
-use Rattle.checks.proofs.Checking.{first-bad}
-use Rattle.masking.specs.Translation.{wordsFor, program}
+use Rattle.checks.specs.Answers.{done, afterCall}
+use Rattle.masking.specs.Translation.{program}
 use Rattle.masking.specs.Foretold.{Accepted, foretoldTape}
 use Rattle.masking.specs.Machine.{stepsOf, exec, rands}
 use Rattle.masking.specs.Runs.{due, standing}
 use Rattle.masking.proofs.emitted.Counts.{plan-counts}
 use Rattle.masking.specs.Demand3.{EachRun}
-use Rattle.masking.proofs.InARow.{each-run, steps-append}
+use Rattle.masking.proofs.InARow.{each-run}
 use Rattle.execution.specs.Shares.{placed, finished}
 use Rattle.execution.specs.WholeRun.{WholeRun, RunsWhole}
 use Rattle.execution.specs.Inner.{GoodPlan}
 use Rattle.gadgets.specs.Effects.{Enough, Ran}
-use Rattle.blocks.specs.PlanWords.{GoodPlanWord, IsGood}
 use Rattle.execution.proofs.Filling.{placed-size}
-
--- the share steps of a plan's words from i on
-pub plan-turn : (n : ℕ) (plan : List ℕ) (i : ℕ) → i < length plan
-    → stepsOf (program n (drop i plan)) ≡ stepsOf (wordsFor n (planStep (getD plan i 0))) ++ stepsOf (program n (drop (i + 1) plan))
-plan-turn n plan i h =
-    ap (λ (l : List ℕ). stepsOf (program n l)) (drop-cons plan i 0 h ∙ ap (λ (k : ℕ). getD plan i 0 ∷ drop k plan) (sym (add-one i)))
-    ∙ steps-append (wordsFor n (planStep (getD plan i 0))) (program n (drop (i + 1) plan))
-
--- each of its words is good
-pub plan-word : (plan : List ℕ) → firstBad planStep plan ≡ length plan → (i : ℕ) → i < length plan → GoodPlanWord (getD plan i 0)
-plan-word plan e i h = by (planStep (getD plan i 0)) (first-bad planStep plan .good i (omega arith))
-  where
-    by : (d : Decoded) → (s : Step) × (d ≡ Good s) → IsGood d
-    by (Good s) q = tt
-    by Bad q = let z : _≡_ {A = ℕ} 0 1 = cc (q .1) in absurd (omega arith)
 
 -- a good plan is accepted for each share count
 pub accepted : {n : ℕ} {plan : List ℕ} → GoodPlan plan → 2 ≤ n → n ≤ 8 → Accepted n plan

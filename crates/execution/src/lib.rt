@@ -1,5 +1,4 @@
-// A call over any good plan, on shares: its answer, the work slice, and the plan's words done on it. The operations with a table are instances; the product is put together of its parts.
-pub mod in_place;
+// What a call over any good plan has beside the plan's words, which `straight` does: its answer, the work slice, and a second operand for a plan of one.
 pub mod one_operand;
 pub mod operation;
 pub mod work;

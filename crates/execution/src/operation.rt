@@ -1,18 +1,12 @@
-// One operation over a plan's words: its answer, what it does, and the call with a result slice of its own. The plan comes with its tape words.
+// The parts of a call over any plan: its answer, by the plan's tape words, the start of its work slice, and its end.
 ghost use mathlib.Core.Path.{_≡_};
 ghost use Prim.Native.Nat.{_-_, _*_, _≤_};
 ghost use lib.ListN.{length, replicate};
-ghost use Rattle.masking.specs.Foretold.{Accepted, foretoldTape};
-ghost use Rattle.masking.specs.Machine.{stepsOf};
-ghost use Rattle.masking.specs.Translation.{program};
 ghost use Rattle.word.specs.Layout.{planMax};
-ghost use Rattle.gadgets.specs.Effects.{Enough, Ran};
-ghost use Rattle.execution.specs.Inner.{GoodPlan, TakesTape};
-ghost use Rattle.execution.specs.Shares.{answerFor, callAnswer, finished, placed, resultAfter, sharesOf, workAfter};
+ghost use Rattle.execution.specs.Shares.{answerFor, placed, sharesOf};
 use crate::work::clear;
 use crate::work::copy_out;
 use crate::work::place;
-use blocks::plan_word::word_done;
 use checks::answer::Answer;
 use checks::share_count::is_share_count;
 use word::step_word::StepWord;
@@ -48,21 +42,6 @@ pub fn operation_answer(
     Answer::done(0, needed)
 }
 
-// Words of a plan in order, from place `start` of the tape on; the answer is the next place.
-pub fn run(words: &[u32], n: usize, tape: &[u64], start: usize, cells: &mut [u64]) -> usize
-    requires { ⌜ Accepted n (now words) × (length (now cells) ≡ 512) ⌝ }
-    requires { ⌜ Enough (now tape) start (stepsOf (program n (now words))) ⌝ }
-    ensures { λ r. ⌜ Ran (stepsOf (program n (now (words .entry)))) (now (tape .entry)) start (now (cells .entry)) (now (cells .exit)) r ⌝ }
-{
-    let mut t = start;
-    let mut i = 0;
-    while i < words.len() {
-        t = word_done(words[i], n, tape, t, cells);
-        i += 1;
-    }
-    t
-}
-
 // Zeros with the operands placed.
 pub fn begin(x: &[u64], y: &[u64], work: &mut [u64])
     requires { ⌜ (length (now x) ≤ 8) × (length (now y) ≤ 8) × (length (now work) ≡ 512) ⌝ }
@@ -73,15 +52,6 @@ pub fn begin(x: &[u64], y: &[u64], work: &mut [u64])
     place(1, y, work);
 }
 
-// Zeros with the operands placed, and the plan's words on them.
-pub(crate) fn finish(plan: &[u32], x: &[u64], y: &[u64], tape: &[u64], work: &mut [u64])
-    requires { ⌜ Accepted (length (now x)) (now plan) × (length (now y) ≤ 8) × (length (now work) ≡ 512) × (foretoldTape (length (now x)) (now plan) ≤ length (now tape)) ⌝ }
-    ensures { λ _. ⌜ now (work .exit) ≡ finished (now (plan .entry)) (length (now (x .entry))) (now (x .entry)) (now (y .entry)) (now (tape .entry)) ⌝ }
-{
-    begin(x, y, work);
-    run(plan, x.len(), tape, 0, work);
-}
-
 // The result copied out, and zeros again.
 pub fn end(work: &mut [u64], result: &mut [u64])
     requires { ⌜ (length (now result) ≤ 8) × (length (now work) ≡ 512) ⌝ }
@@ -89,34 +59,4 @@ pub fn end(work: &mut [u64], result: &mut [u64])
 {
     copy_out(work, result);
     clear(work, StepWord::REGISTERS * result.len());
-}
-
-// An operation by its plan.
-pub fn operation(
-    plan: &[u32],
-    units: usize,
-    x: &[u64],
-    y: &[u64],
-    result: &mut [u64],
-    work: &mut [u64],
-    tape: &[u64],
-) -> Answer
-    requires { ⌜ GoodPlan (now plan) × TakesTape units (now plan) ⌝ }
-    ensures answer { λ r. ⌜ r ≡ callAnswer (now (plan .entry)) (now (x .entry)) (now (y .entry)) (now (result .entry)) (now (work .entry)) (now (tape .entry)) ⌝ }
-    ensures result { λ _. ⌜ now (result .exit) ≡ resultAfter (now (plan .entry)) (now (x .entry)) (now (y .entry)) (now (result .entry)) (now (work .entry)) (now (tape .entry)) ⌝ }
-    ensures work { λ _. ⌜ now (work .exit) ≡ workAfter (now (plan .entry)) (now (x .entry)) (now (y .entry)) (now (result .entry)) (now (work .entry)) (now (tape .entry)) ⌝ }
-{
-    let answer = operation_answer(
-        units,
-        x.len(),
-        y.len(),
-        result.len(),
-        work.len(),
-        tape.len(),
-    );
-    if answer.number == 0 {
-        finish(plan, x, y, tape, work);
-        end(work, result);
-    }
-    answer
 }

@@ -1,8 +1,7 @@
 -- What is proved of the operations: the work slice at the start (Placed), joined results (Joined, and of the calls CallJoined), secrecy
--- (Secret), all together (Masked); and the product by its rows (InParts).
+-- (Secret), all together (Masked).
 pub mod Placed
 pub mod Joined
 pub mod CallJoined
 pub mod Secret
 pub mod Masked
-mod InParts

@@ -7,12 +7,7 @@ ghost use Rattle.plans.specs.TruncatePlan.{truncatePlan};
 ghost use Rattle.plans.specs.NearestPlan.{nearestPlan};
 ghost use Rattle.operations.specs.Masked.{Masked};
 ghost use Rattle.execution.specs.Shares.{callAnswer, resultAfter, workAfter, zerosFor};
-use crate::by_rows::finish;
 use checks::answer::Answer;
-use execution::in_place::operation_in_place;
-use execution::one_operand::operation_of_one_in_place;
-use execution::operation::end;
-use execution::operation::operation_answer;
 
 // The product of shared operands x and y: its shares in x. Turned down with 1 where the shares are not 2 to 8, 4 where y or `work` has the wrong
 // length, 6 where the tape is too short; all is then as it was. `work` has 512 words, zeros afterwards. What holds of it is `Masked`.
@@ -22,19 +17,7 @@ pub fn product(x: &mut [u64], y: &[u64], work: &mut [u64], tape: &[u64]) -> Answ
     ensures work { λ _. ⌜ now (work .exit) ≡ workAfter productPlan (now (x .entry)) (now (y .entry)) (now (x .entry)) (now (work .entry)) (now (tape .entry)) ⌝ }
     ensures holds { λ _. ⌜ Masked ⌝ }
 {
-    let answer = operation_answer(
-        tables::product_rows::TAPE_UNITS,
-        x.len(),
-        y.len(),
-        x.len(),
-        work.len(),
-        tape.len(),
-    );
-    if answer.number == 0 {
-        finish(x, y, tape, work);
-        end(work, x);
-    }
-    answer
+    straight_product::in_place::call(x, y, work, tape)
 }
 
 // The sum of shared operands x and y, likewise.
@@ -44,8 +27,7 @@ pub fn sum(x: &mut [u64], y: &[u64], work: &mut [u64], tape: &[u64]) -> Answer
     ensures work { λ _. ⌜ now (work .exit) ≡ workAfter sumPlan (now (x .entry)) (now (y .entry)) (now (x .entry)) (now (work .entry)) (now (tape .entry)) ⌝ }
     ensures holds { λ _. ⌜ Masked ⌝ }
 {
-    let plan = tables::sum_table::words();
-    operation_in_place(&plan, tables::sum_table::TAPE_UNITS, x, y, work, tape)
+    straight_sum::in_place::call(x, y, work, tape)
 }
 
 // The floor of a shared operand x, likewise.
@@ -55,8 +37,7 @@ pub fn floor(x: &mut [u64], work: &mut [u64], tape: &[u64]) -> Answer
     ensures work { λ _. ⌜ now (work .exit) ≡ workAfter floorPlan (now (x .entry)) (zerosFor (now (x .entry))) (now (x .entry)) (now (work .entry)) (now (tape .entry)) ⌝ }
     ensures holds { λ _. ⌜ Masked ⌝ }
 {
-    let plan = tables::floor_table::words();
-    operation_of_one_in_place(&plan, tables::floor_table::TAPE_UNITS, x, work, tape)
+    straight_floor::in_place::call_of_one(x, work, tape)
 }
 
 // The truncation of a shared operand x, likewise.
@@ -66,8 +47,7 @@ pub fn truncate(x: &mut [u64], work: &mut [u64], tape: &[u64]) -> Answer
     ensures work { λ _. ⌜ now (work .exit) ≡ workAfter truncatePlan (now (x .entry)) (zerosFor (now (x .entry))) (now (x .entry)) (now (work .entry)) (now (tape .entry)) ⌝ }
     ensures holds { λ _. ⌜ Masked ⌝ }
 {
-    let plan = tables::truncate_table::words();
-    operation_of_one_in_place(&plan, tables::truncate_table::TAPE_UNITS, x, work, tape)
+    straight_truncate::in_place::call_of_one(x, work, tape)
 }
 
 // The whole number nearest to a shared operand x, likewise.
@@ -77,6 +57,5 @@ pub fn nearest(x: &mut [u64], work: &mut [u64], tape: &[u64]) -> Answer
     ensures work { λ _. ⌜ now (work .exit) ≡ workAfter nearestPlan (now (x .entry)) (zerosFor (now (x .entry))) (now (x .entry)) (now (work .entry)) (now (tape .entry)) ⌝ }
     ensures holds { λ _. ⌜ Masked ⌝ }
 {
-    let plan = tables::nearest_table::words();
-    operation_of_one_in_place(&plan, tables::nearest_table::TAPE_UNITS, x, work, tape)
+    straight_nearest::in_place::call_of_one(x, work, tape)
 }

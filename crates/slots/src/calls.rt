@@ -13,8 +13,6 @@ use crate::copies::copy_within;
 use crate::held::HELD;
 use crate::held::SLOTS;
 use crate::held::operands;
-use operations::by_rows::product_run;
-use operations::by_table::sum_run;
 use word::step_word::StepWord;
 
 // The product of the numbers in slots a and b into slot k, over the tape from `start` on; the answer is the next place.
@@ -31,7 +29,7 @@ pub fn multiply(
     ensures { λ r. ⌜ (r ≡ start + foretoldTape n productPlan) × HeldDone n (Call Product k a b ∷ []) (drop start (now (tape .entry))) (now (work .entry)) (now (work .exit)) ⌝ }
 {
     operands(n, a, b, work);
-    let next = product_run(n, tape, start, work);
+    let next = straight_product::done(n, tape, start, work);
     copy_within(n, 2, StepWord::REGISTERS, HELD + k, SLOTS, work);
     next
 }
@@ -50,7 +48,7 @@ pub fn add(
     ensures { λ r. ⌜ (r ≡ start + foretoldTape n sumPlan) × HeldDone n (Call Sum k a b ∷ []) (drop start (now (tape .entry))) (now (work .entry)) (now (work .exit)) ⌝ }
 {
     operands(n, a, b, work);
-    let next = sum_run(n, tape, start, work);
+    let next = straight_sum::done(n, tape, start, work);
     copy_within(n, 2, StepWord::REGISTERS, HELD + k, SLOTS, work);
     next
 }

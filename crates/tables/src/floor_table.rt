@@ -302,9 +302,6 @@ const FLOOR: [u32; 297] = [
     0x20080403,
 ];
 
-// Tape words on n shares, as units of n(n-1).
-pub const TAPE_UNITS: usize = 12;
-
 // The whole table.
 pub fn words() -> [u32; 297]
     ensures { λ r. ⌜ r ≡ floorPlan ⌝ }

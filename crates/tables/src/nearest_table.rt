@@ -306,9 +306,6 @@ const NEAREST: [u32; 301] = [
     0x20080403,
 ];
 
-// Tape words on n shares, as units of n(n-1).
-pub const TAPE_UNITS: usize = 14;
-
 // The whole table.
 pub fn words() -> [u32; 301]
     ensures { λ r. ⌜ r ≡ nearestPlan ⌝ }

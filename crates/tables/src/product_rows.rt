@@ -162,7 +162,7 @@ const TAIL: [u32; 114] = [
     0x20080411,
 ];
 
-pub const ROWS: u32 = 52;
+const ROWS: u32 = 52;
 
 // Where the head ends, a row's words, where the rows end, and where the plan does.
 const HEAD_END: usize = 20;
@@ -173,18 +173,15 @@ const ROWS_END: usize = HEAD_END + ROWS as usize * ROW_WORDS;
 
 pub(crate) const WORDS: usize = ROWS_END + 114;
 
-// Tape words on n shares, as units of n(n-1).
-pub const TAPE_UNITS: usize = 89;
-
 // The words before the rows.
-pub fn head() -> [u32; 20]
+fn head() -> [u32; 20]
     ensures { λ r. ⌜ r ≡ headWords ⌝ }
 {
     HEAD
 }
 
 // The words of row q.
-pub fn row(q: u32) -> [u32; 13]
+fn row(q: u32) -> [u32; 13]
     requires { ⌜ q < rowCount ⌝ }
     ensures { λ r. ⌜ r ≡ rowWords q ⌝ }
 {
@@ -194,7 +191,7 @@ pub fn row(q: u32) -> [u32; 13]
 }
 
 // The words after the rows.
-pub fn tail() -> [u32; 114]
+fn tail() -> [u32; 114]
     ensures { λ r. ⌜ r ≡ tailWords ⌝ }
 {
     TAIL

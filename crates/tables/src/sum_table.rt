@@ -305,9 +305,6 @@ const SUM: [u32; 300] = [
     0x2008040C,
 ];
 
-// Tape words on n shares, as units of n(n-1).
-pub const TAPE_UNITS: usize = 81;
-
 // The whole table.
 pub fn words() -> [u32; 300]
     ensures { λ r. ⌜ r ≡ sumPlan ⌝ }

@@ -174,9 +174,6 @@ const TRUNCATE: [u32; 169] = [
     0x30080003,
 ];
 
-// Tape words on n shares, as units of n(n-1).
-pub const TAPE_UNITS: usize = 5;
-
 // The whole table.
 pub fn words() -> [u32; 169]
     ensures { λ r. ⌜ r ≡ truncatePlan ⌝ }

@@ -7,10 +7,9 @@ use complex::sizes::is_layer;
 use word::step_word::StepWord;
 
 // Tape words as units of n(n-1): four products and two sums, and for a pair of a layer four products and six sums.
-const COMPLEX_UNITS: usize = 4 * tables::product_rows::TAPE_UNITS
-    + 2 * tables::sum_table::TAPE_UNITS;
+const COMPLEX_UNITS: usize = 4 * straight_product::calls::UNITS + 2 * straight_sum::calls::UNITS;
 
-const PAIR_UNITS: usize = 4 * tables::product_rows::TAPE_UNITS + 6 * tables::sum_table::TAPE_UNITS;
+const PAIR_UNITS: usize = 4 * straight_product::calls::UNITS + 6 * straight_sum::calls::UNITS;
 
 // Of the complex product.
 pub(crate) fn complex_answer(

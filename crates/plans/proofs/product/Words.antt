@@ -3,19 +3,15 @@
 use mathlib.Core.Path.{_≡_, refl, ap, _∙_}
 use mathlib.Core.Bool.{Bool}
 use mathlib.Core.List.{List, _∷_, _++_, map, map-append}
-use Prim.Native.Nat.{ℕ, suc, _+_, _-_, _/_, _%_, _≤_, _<_}
+use Prim.Native.Nat.{ℕ, _+_, _-_, _/_, _%_, _≤_, _<_}
 use native.Mathlib.Omega.{arith}
 use lib.Dec.{T, eqb, eqb→eq}
 use lib.ListN.{length, getD, set, drop}
 use borrow.Author.Tests.{lt-ltb, le-ltb}
-use Rattle.word.specs.Encoding.{put, planStep, wordOf}
-use Rattle.word.specs.Layout.{planMax}
-use Rattle.checks.specs.Answers.{firstBad}
+use Rattle.word.specs.Encoding.{put, wordOf}
 use Rattle.plans.specs.ProductPlan.{productHead, carryRow, productRow, rowCount, productRows, withExponents, highHalf, normalise, sticky, tests, roundPack, choose, productEnd, productTail, productSteps, productPlan}
 use Rattle.plans.specs.ProductRows.{headWords, rowWords, wordsOfRows, tailWords, wordInRow, headEnd, rowLength, rowsEnd, productWord, ByRows}
 use Rattle.plans.proofs.Tests.{every, each}
-use Rattle.plans.proofs.Registers.{allInPlan}
-use Rattle.plans.proofs.WellFormed.{none-bad}
 
 -- ---- one computed test over all words
 abbrev planWord : ℕ → Bool
@@ -71,28 +67,3 @@ from-row i l h = rw (le-ltb i headEnd l, lt-ltb i rowsEnd h) (in-row ((i - headE
 
 pub from-tail : (i : ℕ) → rowsEnd ≤ i → getD tailWords (i - rowsEnd) 0 ≡ productWord i
 from-tail i l = rw (le-ltb i headEnd (omega arith), le-ltb i rowsEnd l)
-
--- ---- the parts, for a run part by part
-pub one-more : (q : ℕ) → wordsOfRows (suc q) ≡ wordsOfRows q ++ rowWords q
-unfolding productRows rowWords
-one-more q = map-append wordOf (productRows q) (productRow q)
-
--- words that are a plan by themselves
-abbrev pub Sound : List ℕ → Type 0
-Sound ws = (length ws ≤ planMax) × (firstBad planStep ws ≡ length ws)
-
-pub head-sound : Sound headWords
-unfolding headWords productHead
-head-sound = (omega arith, none-bad productHead tt)
-
-every-row-fits : T (every rowCount (λ q. allInPlan (productRow q)))
-unfolding productRow carryRow
-every-row-fits = tt
-
-pub row-sound : (q : ℕ) → q < rowCount → Sound (rowWords q)
-unfolding rowWords productRow carryRow
-row-sound q h = (omega arith, none-bad (productRow q) (each rowCount (λ q. allInPlan (productRow q)) every-row-fits q h))
-
-pub tail-sound : Sound tailWords
-unfolding tailWords carryRow withExponents highHalf normalise sticky tests roundPack choose productEnd productTail
-tail-sound = (omega arith, none-bad productTail tt)

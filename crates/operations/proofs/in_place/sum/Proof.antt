@@ -1,15 +1,8 @@
 -- `operations::in_place::sum` meets its contract.
 use borrow.Author.Needs.{needs}
-use Rattle.binary64.specs.Operations.{Sum}
-use Rattle.operations.proofs.Masked.{good-words, with-masked}
+use Rattle.operations.proofs.Masked.{with-masked}
 use Rattle.operations.proofs.in_place.sum.Statement.{statement}
 use Rattle.operations.proofs.in_place.sum.Tie as tie
-
-operation-in-place-requires : tie.Need-operation-in-place-requires
-operation-in-place-requires c κs = good-words Sum (c .before .before .before .words .ensures)
-
-returns : tie.Need-returns
-returns c = with-masked (rw (c .before .before .before .before .before .before .before .before .words .ensures) at (c .before .before .before .before .operation-in-place .ensures))
 
 pub sum-spec : {M : Type 1} → statement M
 sum-spec =
@@ -17,7 +10,5 @@ sum-spec =
     (tie.spec
     (λ c κs. search needs)
     (λ c. search needs)
-    operation-in-place-requires
     (λ c. search needs)
-    (λ c. search needs)
-    returns)
+    (λ c. with-masked (c .before .before .before .before .call .ensures)))

@@ -1,15 +1,8 @@
 -- `operations::in_place::truncate` meets its contract.
 use borrow.Author.Needs.{needs}
-use Rattle.binary64.specs.Operations.{Truncate}
-use Rattle.operations.proofs.Masked.{good-words, with-masked}
+use Rattle.operations.proofs.Masked.{with-masked}
 use Rattle.operations.proofs.in_place.truncate.Statement.{statement}
 use Rattle.operations.proofs.in_place.truncate.Tie as tie
-
-operation-of-one-in-place-requires : tie.Need-operation-of-one-in-place-requires
-operation-of-one-in-place-requires c κs = good-words Truncate (c .before .before .before .words .ensures)
-
-returns : tie.Need-returns
-returns c = with-masked (rw (c .before .before .before .before .before .before .before .before .words .ensures) at (c .before .before .before .before .operation-of-one-in-place .ensures))
 
 pub truncate-spec : {M : Type 1} → statement M
 truncate-spec =
@@ -17,7 +10,5 @@ truncate-spec =
     (tie.spec
     (λ c κs. search needs)
     (λ c. search needs)
-    operation-of-one-in-place-requires
     (λ c. search needs)
-    (λ c. search needs)
-    returns)
+    (λ c. with-masked (c .before .before .before .before .call-of-one .ensures)))

@@ -10,8 +10,8 @@ use Rattle.slots.proofs.Operands.{call-done}
 use Rattle.slots.proofs.calls.multiply.Statement.{statement}
 use Rattle.slots.proofs.calls.multiply.Tie as tie
 
-product-run-requires : tie.Need-product-run-requires
-product-run-requires c κs =
+done-requires : tie.Need-done-requires
+done-requires c κs =
     let s = c .before .before .before .before .before .before .before in
     let g = s .args in
     let A = accepted (planOf Product) _ (built-ins Product .computes) (g .n) (s .pre .0) (s .pre .1) in
@@ -24,7 +24,7 @@ returns c =
     let A = accepted (planOf Product) _ (built-ins Product .computes) (g .n) (s .pre .0) (s .pre .1) in
     call-done Product (g .n) (g .k) (g .a) (g .b) (g .start) (now (g .tape)) (now (g .work)) A (s .pre .2) (s .pre .3) (s .pre .4) (s .pre .5) (s .pre .6)
     (c .before .before .before .before .before .before .before .before .before .before .operands .ensures)
-    (c .before .before .before .before .before .before .product-run .ensures)
+    (c .before .before .before .before .before .before .done .ensures)
     (c .before .before .copy-within .ensures)
 
 pub multiply-spec : {M : Type 1} → statement M
@@ -32,7 +32,7 @@ multiply-spec =
     tie.close
     (tie.spec
     (λ c κs. search needs)
-    product-run-requires
+    done-requires
     (λ c. search needs)
     (λ c κs. search needs)
     (λ c. search needs)

@@ -1,0 +1,26 @@
+-- Written by tools/compile_plan.py: change the plan or the compiler, not this file.
+-- Nearest's plan is its runs and the words between them, by computation.
+use mathlib.Core.Path.{_≡_, refl}
+use Prim.Native.Nat.{_-_, _*_}
+use native.Mathlib.Omega.{arith}
+use Rattle.word.specs.Encoding.{named, put}
+use Rattle.word.specs.Encoding as encoding
+use Rattle.word.specs.Layout.{tapeOf}
+use Rattle.masking.specs.Foretold.{foretoldTape}
+use Rattle.masking.proofs.emitted.Counts.{by-count}
+use Rattle.execution.specs.Inner.{GoodPlan, TakesTape}
+use Rattle.plans.specs.NearestPlan.{nearestPlan}
+use Rattle.straight.proofs.Cut.{Cut}
+use Rattle.straight_nearest.specs.Runs.{gates, lastRun, runs}
+
+pub cut : Cut runs lastRun gates nearestPlan
+unfolding nearestPlan put named encoding.row
+cut = record { whole = refl; runs = tt; final = tt; gates = tt; same = refl }
+
+pub good : GoodPlan nearestPlan
+unfolding nearestPlan put named encoding.row
+good = record { short = omega arith; good = refl }
+
+pub takes : TakesTape 14 nearestPlan
+unfolding nearestPlan put tapeOf
+takes = record { most = omega arith; tape = by-count (λ n. foretoldTape n nearestPlan ≡ 14 * (n * (n - 1))) refl refl refl refl refl refl refl }

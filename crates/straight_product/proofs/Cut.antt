@@ -1,0 +1,26 @@
+-- Written by tools/compile_plan.py: change the plan or the compiler, not this file.
+-- The product's plan is its runs and the words between them, by computation.
+use mathlib.Core.Path.{_≡_, refl}
+use Prim.Native.Nat.{_-_, _*_}
+use native.Mathlib.Omega.{arith}
+use Rattle.word.specs.Encoding.{named, put}
+use Rattle.word.specs.Encoding as encoding
+use Rattle.word.specs.Layout.{tapeOf}
+use Rattle.masking.specs.Foretold.{foretoldTape}
+use Rattle.masking.proofs.emitted.Counts.{by-count}
+use Rattle.execution.specs.Inner.{GoodPlan, TakesTape}
+use Rattle.plans.specs.ProductPlan.{productPlan, productHead, carryRow, productRow, productRows, withExponents, highHalf, normalise, sticky, tests, roundPack, choose, productEnd, productTail, productSteps}
+use Rattle.straight.proofs.Cut.{Cut}
+use Rattle.straight_product.specs.Runs.{gates, lastRun, runs}
+
+pub cut : Cut runs lastRun gates productPlan
+unfolding productPlan productHead carryRow productRow productRows withExponents highHalf normalise sticky tests roundPack choose productEnd productTail productSteps put named encoding.row
+cut = record { whole = refl; runs = tt; final = tt; gates = tt; same = refl }
+
+pub good : GoodPlan productPlan
+unfolding productPlan productHead carryRow productRow productRows withExponents highHalf normalise sticky tests roundPack choose productEnd productTail productSteps put named encoding.row
+good = record { short = omega arith; good = refl }
+
+pub takes : TakesTape 89 productPlan
+unfolding productPlan productHead carryRow productRow productRows withExponents highHalf normalise sticky tests roundPack choose productEnd productTail productSteps put tapeOf
+takes = record { most = omega arith; tape = by-count (λ n. foretoldTape n productPlan ≡ 89 * (n * (n - 1))) refl refl refl refl refl refl refl }

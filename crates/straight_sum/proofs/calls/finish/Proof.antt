@@ -1,0 +1,26 @@
+-- Written by tools/compile_plan.py: change the plan or the compiler, not this file.
+-- `straight_sum::calls::finish` meets its contract.
+use denote.Ref.{now}
+use lib.ListN.{length}
+use borrow.Author.Needs.{needs}
+use Rattle.plans.specs.SumPlan.{sumPlan}
+use Rattle.execution.proofs.Plans.{enough-tape, finished-by}
+use Rattle.straight_sum.proofs.calls.finish.Statement.{statement}
+use Rattle.straight_sum.proofs.calls.finish.Tie as tie
+
+done-requires : tie.Need-done-requires
+done-requires c κs =
+    let s = c .before .before .before .before .before .before .before .before .before in
+    let x = now (s .args .x) in
+    ((s .pre .0 .least, s .pre .0 .most, search needs), enough-tape (length x) sumPlan x (now (s .args .y)) (now (s .args .tape)) (s .pre .0) (s .pre .3))
+
+returns : tie.Need-returns
+returns c =
+    let p = c .before .before in
+    let b = p .before .before .before .before in
+    let s = b .before .before .before .before .before .before in
+    let x = now (s .args .x) in
+    finished-by (length x) sumPlan x (now (s .args .y)) (now (s .args .tape)) (s .pre .0) (s .pre .3) (b .begin .ensures) (p .done .ensures)
+
+pub finish-spec : {M : Type 1} → statement M
+finish-spec = tie.close (tie.spec (λ c κs. search needs) done-requires (λ c. search needs) returns)

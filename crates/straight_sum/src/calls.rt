@@ -1,0 +1,45 @@
+// Written by tools/compile_plan.py: change the plan or the compiler, not this file.
+// The call over the sum's plan with a result slice of its own: checked, placed, done and copied out.
+ghost use mathlib.Core.Path.{_≡_};
+ghost use Prim.Native.Nat.{_≤_};
+ghost use lib.ListN.{length};
+ghost use Rattle.masking.specs.Foretold.{Accepted, foretoldTape};
+ghost use Rattle.plans.specs.SumPlan.{sumPlan};
+ghost use Rattle.execution.specs.Shares.{callAnswer, finished, resultAfter, workAfter};
+use crate::done;
+use checks::answer::Answer;
+use execution::operation::begin;
+use execution::operation::end;
+use execution::operation::operation_answer;
+
+// The plan's tape words, in units of n(n-1).
+pub const UNITS: usize = 81;
+
+// Zeros with the operands placed, and the plan's words on them.
+pub(crate) fn finish(x: &[u64], y: &[u64], tape: &[u64], work: &mut [u64])
+    requires { ⌜ Accepted (length (now x)) sumPlan × (length (now y) ≤ 8) × (length (now work) ≡ 512) × (foretoldTape (length (now x)) sumPlan ≤ length (now tape)) ⌝ }
+    ensures { λ _. ⌜ now (work .exit) ≡ finished sumPlan (length (now (x .entry))) (now (x .entry)) (now (y .entry)) (now (tape .entry)) ⌝ }
+{
+    begin(x, y, work);
+    done(x.len(), tape, 0, work);
+}
+
+pub fn call(x: &[u64], y: &[u64], result: &mut [u64], work: &mut [u64], tape: &[u64]) -> Answer
+    ensures answer { λ r. ⌜ r ≡ callAnswer sumPlan (now (x .entry)) (now (y .entry)) (now (result .entry)) (now (work .entry)) (now (tape .entry)) ⌝ }
+    ensures result { λ _. ⌜ now (result .exit) ≡ resultAfter sumPlan (now (x .entry)) (now (y .entry)) (now (result .entry)) (now (work .entry)) (now (tape .entry)) ⌝ }
+    ensures work { λ _. ⌜ now (work .exit) ≡ workAfter sumPlan (now (x .entry)) (now (y .entry)) (now (result .entry)) (now (work .entry)) (now (tape .entry)) ⌝ }
+{
+    let answer = operation_answer(
+        UNITS,
+        x.len(),
+        y.len(),
+        result.len(),
+        work.len(),
+        tape.len(),
+    );
+    if answer.number == 0 {
+        finish(x, y, tape, work);
+        end(work, result);
+    }
+    answer
+}

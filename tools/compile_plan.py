@@ -1,0 +1,80 @@
+#!/usr/bin/env python3
+"""The plan compiler: from a plan's words a Rattle crate that does them on n shares, 2 to 8, with its proofs. docs/PLANS.md shows its use.
+
+usage: compile_plan.py [--check] [NAME..]
+
+NAME is a section of tools/plans.ini, by default each; its crate, crates/straight_NAME, is written from the texts in tools/straight, or with --check
+compared with what would be written. Each run of linear words between ANDs and ADDs becomes straight code on one share, an arm of a
+match on the run's number (plan_cut.py). The prover checks all of it, so that nothing here has to be trusted."""
+import configparser
+import os
+import shutil
+import sys
+
+from plan_cut import ROOT, Plan
+from plan_text import parts
+
+TEXTS = os.path.join(ROOT, "tools", "straight")
+
+
+def texts(folder):
+    """the texts below a folder, by the path of the file that they become"""
+    found = {}
+    for place, _, names in os.walk(folder):
+        for name in names:
+            path = os.path.join(place, name)
+            found[os.path.relpath(path, folder)[:-len(".in")]] = open(path).read()
+    return found
+
+
+def files_of(plan):
+    """the crate's files: the texts with the plan's parts put in"""
+    common = {path: text for path, text in texts(TEXTS).items() if not path.startswith("of_one" + os.sep)}
+    of_one = texts(os.path.join(TEXTS, "of_one")) if plan.operands == 1 else {}
+    put_in = parts(plan) | {"OF_ONE": of_one.pop("src/calls.rt", ""), "OF_ONE_IN_PLACE": of_one.pop("src/in_place.rt", "")}
+    files = common | of_one
+    for name, part in put_in.items():
+        files = {path: text.replace(f"@{name}@", part) for path, text in files.items()}
+    for name in ("WRITTEN", "PLAN", "CRATE", "TITLE", "MODULE"):  # they stand in the parts too
+        files = {path: text.replace(f"@{name}@", put_in[name]) for path, text in files.items()}
+    return files
+
+
+def present(folder):
+    """the files of a crate but its must-fail edits, which are written by hand"""
+    found = {}
+    for part in ("src", "specs", "proofs"):
+        for place, _, names in os.walk(os.path.join(folder, part)):
+            for name in names:
+                path = os.path.join(place, name)
+                found[os.path.relpath(path, folder)] = open(path).read()
+    return found
+
+
+def write(folder, files):
+    for part in ("src", "specs", "proofs"):
+        shutil.rmtree(os.path.join(folder, part), ignore_errors=True)
+    for path, text in files.items():
+        path = os.path.join(folder, path)
+        os.makedirs(os.path.dirname(path), exist_ok=True)
+        with open(path, "w") as file:
+            file.write(text)
+
+
+def main(arguments):
+    config = configparser.ConfigParser()
+    config.read(os.path.join(ROOT, "tools", "plans.ini"))
+    names = [name for name in arguments if name != "--check"] or config.sections()
+    status = 0
+    for name in names:
+        plan = Plan(name, config[name])
+        folder, files = os.path.join(ROOT, "crates", plan.crate), files_of(plan)
+        if "--check" not in arguments:
+            write(folder, files)
+        elif present(folder) != files:
+            print(f"compile_plan: crates/{plan.crate} is not what the compiler writes", file=sys.stderr)
+            status = 1
+    return status
+
+
+sys.exit(main(sys.argv[1:]))

@@ -1,0 +1,116 @@
+"""A plan's words, cut at its ANDs and ADDs ("gates") into runs of linear words, and the runs as arms of a match: runs in a row that differ only in
+a shift number which grows by one are one arm over that number."""
+import os
+import re
+
+ROOT = os.path.dirname(os.path.dirname(os.path.abspath(__file__)))
+SIZES = [(16, "sixteen"), (8, "eight"), (4, "four"), (2, "two"), (1, "linear")]
+AND, SHR, ADD = 3, 6, 8
+
+
+def words_of(section):
+    """The plan's words: those of its files in order; of a file named as FILE:HEAD,ROW*N,TAIL those of its constants, ROW N times over with the number of the row added to its first word."""
+    words = []
+    for part in section["words"].split():
+        path, _, names = part.partition(":")
+        text = open(os.path.join(ROOT, path)).read()
+        if not names:
+            words += literals(text)
+        for name in names.split(",") if names else []:
+            name, _, times = name.partition("*")
+            table = literals(re.search(r"const %s: [^=]*= \[(.*?)\];" % name, text, re.S)[1])
+            rows = [[table[0] + q] + table[1:] for q in range(int(times))] if times else [table]
+            words += [word for row in rows for word in row]
+    return words
+
+
+def literals(text):
+    return [int(word, 16) for word in re.findall(r"\b0x([0-9A-Fa-f]{8})\b", text)]
+
+
+def cut(words):
+    runs, gates = [[]], []
+    for word in words:
+        if word >> 28 in (AND, ADD):
+            gates.append(word)
+            runs.append([])
+        else:
+            runs[-1].append(word)
+    return runs, gates
+
+
+def number_place(runs, k):
+    """Where run k + 1 has a SHR word with a number one larger than run k, all else the same; None if it is not so."""
+    if k + 1 >= len(runs) or len(runs[k]) != len(runs[k + 1]):
+        return None
+    differ = [j for j, (v, w) in enumerate(zip(runs[k], runs[k + 1])) if v != w]
+    if len(differ) == 1 and runs[k][differ[0]] >> 28 == SHR and runs[k + 1][differ[0]] == runs[k][differ[0]] + 1:
+        return differ[0]
+    return None
+
+
+class Arm:
+    """Runs first to last by one text; `place` is the word that has the number, None for a single run."""
+
+    def __init__(self, first, last, place, words):
+        self.first, self.last, self.place, self.words = first, last, place, words
+
+    def base(self):
+        return self.words[self.place] & ~511
+
+    def number(self):
+        """the shift number of the first"""
+        return self.words[self.place] & 511
+
+    def offset(self):
+        """run number less shift number"""
+        return self.first - self.number()
+
+
+def arms_of(runs):
+    arms, k = [], 0
+    while k < len(runs):
+        last, place = k, number_place(runs, k)
+        while place is not None and last + 1 < len(runs) - 1 and number_place(runs, last) == place:
+            last += 1
+        if last - k < 2:
+            last, place = k, None
+        arms.append(Arm(k, last, place, runs[k]))
+        k = last + 1
+    return arms
+
+
+def calls_of(words):
+    calls, at = [], 0
+    while at < len(words):
+        size, name = next((size, name) for size, name in SIZES if size <= len(words) - at)
+        calls.append((name, words[at:at + size]))
+        at += size
+    return calls
+
+
+class Plan:
+    """A section of plans.ini with its plan cut. `plan` is the definition that the prover knows, `unfold` what has to be unfolded to compute its words."""
+
+    def __init__(self, name, section):
+        self.crate, self.title = "straight_" + name, section["title"]
+        self.module, self.plan = section["plan"].rsplit(".", 1)
+        self.unfold, self.operands = section["unfold"].split(), int(section["operands"])
+        self.runs, self.gates = cut(words_of(section))
+        self.arms = arms_of(self.runs)
+        self.rows = next((arm for arm in self.arms if arm.place is not None), None)
+        self.units = sum(1 if word >> 28 == AND else 12 for word in self.gates)
+        self.same = next((k for k, word in enumerate(self.gates) if word != self.gates[0]), len(self.gates))
+
+    def calls(self, arm):
+        """the calls of an arm: a function's name and its words, or None for the word with the number"""
+        if arm.place is None:
+            return calls_of(arm.words)
+        return calls_of(arm.words[:arm.place]) + [("shifted", None)] + calls_of(arm.words[arm.place + 1:])
+
+    def key(self, arm):
+        return "_" if arm is (self.rows or self.arms[-1]) else "%d" % arm.first
+
+    def ordered(self):
+        """the arms in the match's order: the one without a key of its own last"""
+        return [arm for arm in self.arms if self.key(arm) != "_"] + [arm for arm in self.arms if self.key(arm) == "_"]

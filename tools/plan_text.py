@@ -1,0 +1,178 @@
+"""The parts of a compiled plan's crate that depend on its words, for the texts in tools/straight: lists, arms of matches, and what the proof of a match says arm by arm."""
+
+WRITTEN = "Written by tools/compile_plan.py: change the plan or the compiler, not this file."
+WIDTH = 100  # of a line of code, as rt fmt breaks it
+SEARCH = "(λ c. search needs)"
+
+
+def parts(plan):
+    rows = plan.rows
+    return {
+        "WRITTEN": WRITTEN, "CRATE": plan.crate, "TITLE": plan.title, "THIS": plan.title[0].lower() + plan.title[1:], "MODULE": plan.module,
+        "PLAN": plan.plan, "UNFOLD": "".join(" " + name for name in plan.unfold), "UNFOLD_NAMES": "".join(", " + name for name in plan.unfold),
+        "GATES": str(len(plan.gates)), "UNITS": str(plan.units),
+        "PUB": "" if plan.operands == 1 else "pub ", "ZEROS": ", zerosFor" if plan.operands == 1 else "",
+        "ONE_OPERAND": "use execution::one_operand::NONE;\nuse execution::one_operand::at_most_eight;\n" if plan.operands == 1 else "",
+        "BELOW": f"(k < {len(plan.runs)}) × " if rows else "", "SHOW_BELOW": "omega arith, " if rows else "", "SIZE": "2" if rows else "1",
+    } | lists(plan) | code(plan) | on_share_proof(plan) | gate_proof(plan)
+
+
+def listed(words):
+    return "".join("%d ∷ " % word for word in words) + "[]"
+
+
+def hexed(word):
+    return "0x%08X" % word
+
+
+# ---- definitions
+
+def lists(plan):
+    rows = plan.rows
+    runs = "".join("(%s) ∷\n    " % listed(run) for run in plan.runs[rows.last + 1 if rows else 0:-1]) + "[]"
+    if not rows:
+        return {"SPEC_USES": "use mathlib.Core.List.{List, [], _∷_}\nuse Prim.Native.Nat.{ℕ}", "ROW": "", "RUN_LISTS": runs,
+                "LAST_RUN": listed(plan.runs[-1]), "GATE_LIST": listed(plan.gates)}
+    return {
+        "SPEC_USES": "use mathlib.Core.List.{List, [], _∷_, _++_, map}\nuse Prim.Native.Nat.{ℕ, _+_}\nuse lib.ListN.{replicate}\n"
+                     "use Rattle.masking.specs.Translation.{upFrom}",
+        "ROW": row_lists(plan, runs),
+        "RUN_LISTS": "first ++ (map row (upFrom %d %d) ++ after)" % (rows.number(), rows.last - rows.first + 1),
+        "LAST_RUN": listed(plan.runs[-1]),
+        "GATE_LIST": "replicate %d %d ++ (%s)" % (plan.same, plan.gates[0], listed(plan.gates[plan.same:])),
+    }
+
+
+def row_lists(plan, after):
+    words = ["%d" % word for word in plan.rows.words]
+    words[plan.rows.place] = "(%d + q)" % plan.rows.base()
+    first = "".join("(%s) ∷ " % listed(run) for run in plan.runs[:plan.rows.first])
+    return f"""
+-- the runs that differ in a shift number, by that number
+abbrev pub row : ℕ → List ℕ
+row q = {" ∷ ".join(words)} ∷ []
+
+-- the runs before them
+abbrev pub first : List (List ℕ)
+first = {first}[]
+
+-- and after them
+abbrev pub after : List (List ℕ)
+after =
+    {after}
+"""
+
+
+# ---- code
+
+def code(plan):
+    used = sorted({name for arm in plan.arms for name, _ in plan.calls(arm)})
+    arms = [line for arm in plan.ordered() for line in arm_lines(plan, arm)]
+    keyed = range(plan.same, len(plan.gates)) if plan.rows else range(len(plan.gates) - 1)
+    rest = plan.gates[0] if plan.rows else plan.gates[-1]
+    gates = [f"        {k} => {hexed(plan.gates[k])}," for k in keyed] + [f"        _ => {hexed(rest)},"]
+    return {"USES": "\n".join(f"use straight::linear::{name};" for name in used), "ARMS": "\n".join(arms), "GATE_ARMS": "\n".join(gates)}
+
+
+def arm_lines(plan, arm):
+    lines = []
+    for name, words in plan.calls(arm):
+        given = [hexed(arm.base()), f"(k - {arm.offset()}) as u32"] if words is None else list(map(hexed, words))
+        lines += call_lines(name, given + ["i", "cells"])
+    if not lines:
+        return [f"        {plan.key(arm)} => {{}}"]
+    return [f"        {plan.key(arm)} => {{"] + lines + ["        }"]
+
+
+def call_lines(name, given):
+    line = f"            {name}({', '.join(given)});"
+    if len(line) <= WIDTH:
+        return [line]
+    return [f"            {name}("] + [f"                {word}," for word in given] + ["            );"]
+
+
+# ---- proofs. In the proof of an arm with m calls the ensures of call l stands 2 + 4 (m - 1 - l) steps back, the match 4 m and the arguments 4 m + 2;
+# places are numbered over the whole function.
+
+def before(steps):
+    return "c" + " .before" * steps
+
+
+def on_share_proof(plan):
+    seen, needs, ends, returns = {}, [], [], []
+    for number, arm in enumerate(plan.ordered()):
+        places = []
+        for name, words in plan.calls(arm):
+            seen[name] = seen.get(name, 0) + 1
+            needs += asked(plan, arm, words, len(places))
+            places.append(name + ("" if seen[name] == 1 else str(seen[name])))
+        count = len(places)
+        facts = [run_fact(plan, arm, number, count)]
+        facts += [f"{before(2 + 4 * (count - 1 - l))} .{places[l]} .ensures" for l in reversed(range(count))]
+        need = "returns" + ("" if number == 0 else f"-{number + 1}")
+        ends += [SEARCH, need] if count else [need]
+        returns.append(f"{need} : tie.Need-{need}\n{need} c = rw ({', '.join(facts)})\n")
+    return {"ON_SHARE_USES": on_share_uses(plan), "NUMBERED": numbered_run(plan), "RETURNS": "\n".join(returns), "ON_SHARE_ENDS": wrapped(needs + ends)}
+
+
+def on_share_uses(plan):
+    spec = "Rattle·@CRATE@·specs.specs.Runs"
+    if not plan.rows:
+        return "\n".join(["use borrow.Author.Needs.{needs}", "use Rattle.straight.proofs.Rest.{past}", f"use {spec}.{{lastRun, runs}}"])
+    return "\n".join([
+        "use mathlib.Core.Path.{_≡_, refl, ap, _∙_}", "use Prim.Native.Nat.{ℕ, _-_, _≤_, _<_}", "use native.Mathlib.Omega.{arith}",
+        "use lib.ListN.{getD}", "use borrow.Author.Needs.{needs}", "use Rattle.straight.proofs.Rest.{between, numbered}",
+        f"use {spec}.{{after, first, lastRun, row, runs}}"])
+
+
+def numbered_run(plan):
+    """the law by which the run of the arm over a number is found"""
+    rows = plan.rows
+    if not rows:
+        return ""
+    low, high = rows.first, rows.last + 1
+    return f"""numbered-run : (k : ℕ) → ({low} ≤ k) × (k < {high}) → getD runs k lastRun ≡ row (k - {rows.offset()})
+numbered-run k h = numbered row after lastRun first {rows.number()} {high - low} k (h .0) (h .1) ∙ ap row (omega (arith, h .0))
+
+"""
+
+
+def stands(plan, arm, steps):
+    """between which keys k stands in the arm without one, `steps` after the match"""
+    return f"between {arm.first} {arm.last + 1} {len(plan.runs) - arm.last - 1} _ ({before(steps)} .match .rest) ({before(steps + 2)} .pre .0)"
+
+
+def asked(plan, arm, words, calls):
+    """what a call asks after `calls` others in its arm"""
+    if words is None:
+        requires = f"(refl, refl, omega (arith, {stands(plan, arm, 4 * calls + 1)}), search needs, search needs)"
+        return [f"(λ c. omega (arith, {stands(plan, arm, 4 * calls)}))"] * 2 + [f"(λ c κs. {requires})"]
+    return ["(λ c κs. search needs)"] if calls or plan.rows else [f"(λ c κs. {before(3)} .pre)"]
+
+
+def run_fact(plan, arm, number, count):
+    """that run k of the plan is the arm's"""
+    if plan.key(arm) != "_":
+        return f"{before(4 * count)} .match .keys{number + 1}"
+    return f"numbered-run _ ({stands(plan, arm, 4 * count)})" if plan.rows else f"past runs lastRun _ ({before(4 * count)} .match .rest)"
+
+
+def gate_proof(plan):
+    if plan.rows:
+        keyed = len(plan.gates) - plan.same
+        law, last = "between, equal", f"equal _ _ {plan.same} _ (between 0 {plan.same} {keyed} _ (c .match .rest) (c .before .pre) .1)"
+    else:
+        keyed = len(plan.gates) - 1
+        law, last = "only", f"only {keyed} _ (c .match .rest) (c .before .pre)"
+    return {"GATE_USES": f"use borrow.Author.Needs.{{needs}}\nuse Rattle.straight.proofs.Rest.{{{law}}}",
+            "GATE_ENDS": wrapped([SEARCH] * keyed + [f"(λ c. rw ({last}))"])}
+
+
+def wrapped(items):
+    lines, line = [], ""
+    for item in items:
+        if line and len(line) + len(item) > 132:
+            lines.append(line)
+            line = ""
+        line += (" " if line else "") + item
+    return "\n    ".join(lines + [line])
