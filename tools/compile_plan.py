@@ -29,10 +29,11 @@ def texts(folder):
 
 def files_of(plan):
     """the crate's files: the texts with the plan's parts put in"""
-    common = {path: text for path, text in texts(TEXTS).items() if not path.startswith("of_one" + os.sep)}
+    common = {path: text for path, text in texts(TEXTS).items() if path.split(os.sep)[0] not in ("of_one", "own")}
     of_one = texts(os.path.join(TEXTS, "of_one")) if plan.operands == 1 else {}
+    own = texts(os.path.join(TEXTS, "own")) if plan.own else {}
     put_in = parts(plan) | {"OF_ONE": of_one.pop("src/calls.rt", ""), "OF_ONE_IN_PLACE": of_one.pop("src/in_place.rt", "")}
-    files = common | of_one
+    files = common | of_one | own
     for name, part in put_in.items():
         files = {path: text.replace(f"@{name}@", part) for path, text in files.items()}
     for name in ("WRITTEN", "PLAN", "CRATE", "TITLE", "MODULE"):  # they stand in the parts too

@@ -90,13 +90,17 @@ def calls_of(words):
 
 
 class Plan:
-    """A section of plans.ini with its plan cut. `plan` is the definition that the prover knows, `unfold` what has to be unfolded to compute its words."""
+    """A section of plans.ini with its plan cut. `plan` is the definition that the prover knows, `unfold` what has to be unfolded to compute its words;
+    without a definition the crate gets one of its own, the words as they stand."""
 
     def __init__(self, name, section):
         self.crate, self.title = "straight_" + name, section["title"]
-        self.module, self.plan = section["plan"].rsplit(".", 1)
-        self.unfold, self.operands = section["unfold"].split(), int(section["operands"])
-        self.runs, self.gates = cut(words_of(section))
+        self.own = "plan" not in section
+        own = "Rattle.%s.specs.Plan.%sPlan" % (self.crate, name)
+        self.module, self.plan = section.get("plan", own).rsplit(".", 1)
+        self.unfold, self.operands = section.get("unfold", "").split(), int(section["operands"])
+        self.words = words_of(section)
+        self.runs, self.gates = cut(self.words)
         self.arms = arms_of(self.runs)
         self.rows = next((arm for arm in self.arms if arm.place is not None), None)
         self.units = sum(1 if word >> 28 == AND else 12 for word in self.gates)

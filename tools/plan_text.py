@@ -10,7 +10,7 @@ def parts(plan):
     return {
         "WRITTEN": WRITTEN, "CRATE": plan.crate, "TITLE": plan.title, "THIS": plan.title[0].lower() + plan.title[1:], "MODULE": plan.module,
         "PLAN": plan.plan, "UNFOLD": "".join(" " + name for name in plan.unfold), "UNFOLD_NAMES": "".join(", " + name for name in plan.unfold),
-        "GATES": str(len(plan.gates)), "UNITS": str(plan.units),
+        "GATES": str(len(plan.gates)), "UNITS": str(plan.units), "WORDS": listed(plan.words),
         "PUB": "" if plan.operands == 1 else "pub ", "ZEROS": ", zerosFor" if plan.operands == 1 else "",
         "ONE_OPERAND": "use execution::one_operand::NONE;\nuse execution::one_operand::at_most_eight;\n" if plan.operands == 1 else "",
         "BELOW": f"(k < {len(plan.runs)}) × " if rows else "", "SHOW_BELOW": "omega arith, " if rows else "", "SIZE": "2" if rows else "1",
