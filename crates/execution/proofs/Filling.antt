@@ -1,16 +1,17 @@
 -- Slices filled word by word: zeros, operands placed, the result copied out. Rests on masking's Rising.
 use mathlib.Core.Path.{_≡_, refl, sym, ap, _∙_, subst}
 use mathlib.Core.List.{List, [], _∷_, _++_, map}
+use mathlib.Core.Logic.{_≢_}
 use mathlib.Core.Bool.{Bool, true, false}
-use Prim.Native.Nat.{ℕ, suc, _+_, _-_, _≤_, _<_}
-use native.Mathlib.Nat.{zero-add}
+use Prim.Native.Nat.{ℕ, suc, _+_, _-_, _*_, _≤_, _<_}
+use native.Mathlib.Nat.{zero-add, add-zero}
 use native.Mathlib.Decide.{ℕ-discrete}
 use native.Mathlib.Numerals.{add-one}
 use native.Mathlib.Omega.{arith}
 use lib.Dec.{ltb}
 use borrow.Author.Tests.{ltb-true, ltb-false}
 use lib.ListN.{length, getD, set, take, drop, replicate, List·getD-append, length-set, length-map, length-replicate, getD-replicate}
-use lib.Seq.{drop-cons, getD-append-add, getD-take, length-take-le, ext-getD, getD-set-same, getD-set-other}
+use lib.Seq.{set-comm, drop-cons, getD-append-add, getD-take, length-take-le, ext-getD, getD-set-same, getD-set-other}
 use borrow.Rule.Slice.PartMut.{midOf, putMid, postOf, mid-len, same-len-mid}
 use Rattle.word.specs.Layout.{cell}
 use Rattle.masking.proofs.emitted.Rising.{length-from, getD-from}
@@ -74,6 +75,25 @@ pub placed-turn : (r i : ℕ) (x cells : List ℕ) → i < length x → placedIn
 placed-turn r i x cells h =
     ap (λ (l : List ℕ). placedIn r i l cells) (drop-cons x i 0 h)
     ∙ ap (λ (k : ℕ). placedIn r k (drop k x) (set cells (cell i r) (getD x i 0))) (sym (add-one i))
+
+-- shares of two operands in turn
+apart : (r s i j : ℕ) → r < 32 → s < 32 → r ≢ s → cell j r ≢ cell i s
+apart r s i j lr ls h e = h (omega arith)
+
+past : (r s i v : ℕ) → r < 32 → s < 32 → r ≢ s → (j : ℕ) (x cells : List ℕ) → placedIn r j x (set cells (cell i s) v) ≡ set (placedIn r j x cells) (cell i s) v
+past r s i v lr ls h j [] cells = refl
+past r s i v lr ls h j (w ∷ x) cells =
+    ap (placedIn r (suc j) x) (set-comm cells (cell i s) (cell j r) v w (λ e. apart r s i j lr ls h (sym e)))
+    ∙ past r s i v lr ls h (suc j) x (set cells (cell j r) w)
+
+pub both-placed : (i : ℕ) (x y cells : List ℕ) → i < length x → length y ≡ length x
+    → placedIn 1 i (drop i y) (placedIn 0 i (drop i x) cells)
+    ≡ placedIn 1 (i + 1) (drop (i + 1) y) (placedIn 0 (i + 1) (drop (i + 1) x) (set (set cells (32 * i) (getD x i 0)) (cell i 1) (getD y i 0)))
+both-placed i x y cells h e =
+    ap (placedIn 1 i (drop i y)) (placed-turn 0 i x cells h)
+    ∙ placed-turn 1 i y (placedIn 0 (i + 1) (drop (i + 1) x) (set cells (cell i 0) (getD x i 0))) (omega arith)
+    ∙ ap (placedIn 1 (i + 1) (drop (i + 1) y)) (sym (past 0 1 i (getD y i 0) (omega arith) (omega arith) (λ q. omega arith) (i + 1) (drop (i + 1) x) (set cells (cell i 0) (getD x i 0))))
+    ∙ ap (λ (k : ℕ). placedIn 1 (i + 1) (drop (i + 1) y) (placedIn 0 (i + 1) (drop (i + 1) x) (set (set cells k (getD x i 0)) (cell i 1) (getD y i 0)))) (add-zero (32 * i))
 
 pub placed-size : (r i : ℕ) (x cells : List ℕ) → length (placedIn r i x cells) ≡ length cells
 placed-size r i [] cells = refl

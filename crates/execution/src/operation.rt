@@ -44,12 +44,11 @@ pub fn operation_answer(
 
 // Zeros with the operands placed.
 pub fn begin(x: &[u64], y: &[u64], work: &mut [u64])
-    requires { ⌜ (length (now x) ≤ 8) × (length (now y) ≤ 8) × (length (now work) ≡ 512) ⌝ }
+    requires { ⌜ (length (now y) ≡ length (now x)) × (length (now x) ≤ 8) × (length (now work) ≡ 512) ⌝ }
     ensures { λ _. ⌜ now (work .exit) ≡ placed (now (x .entry)) (now (y .entry)) ⌝ }
 {
     clear(work, StepWord::REGISTERS * x.len());
-    place(0, x, work);
-    place(1, y, work);
+    place(x, y, work);
 }
 
 // The result copied out, and zeros again.

@@ -51,14 +51,15 @@ pub fn clear(cells: &mut [u64], cut: usize)
     clear_by_parts(&mut cells[cut..all]);
 }
 
-// An operand's shares into register r.
-pub(crate) fn place(r: usize, x: &[u64], cells: &mut [u64])
-    requires { ⌜ (r < 32) × (length (now x) ≤ 8) × (length (now cells) ≡ 512) ⌝ }
-    ensures { λ _. ⌜ now (cells .exit) ≡ placedIn r 0 (now (x .entry)) (now (cells .entry)) ⌝ }
+// Operands' shares into registers 0 and 1, in turn: one operand's share 1 does not follow its share 0 through a register.
+pub(crate) fn place(x: &[u64], y: &[u64], cells: &mut [u64])
+    requires { ⌜ (length (now y) ≡ length (now x)) × (length (now x) ≤ 8) × (length (now cells) ≡ 512) ⌝ }
+    ensures { λ _. ⌜ now (cells .exit) ≡ placedIn 1 0 (now (y .entry)) (placedIn 0 0 (now (x .entry)) (now (cells .entry))) ⌝ }
 {
     let mut i = 0;
     while i < x.len() {
-        cells[StepWord::REGISTERS * i + r] = x[i];
+        cells[StepWord::REGISTERS * i] = x[i];
+        cells[StepWord::REGISTERS * i + 1] = y[i];
         i += 1;
     }
 }
