@@ -11,10 +11,11 @@ use lib.ListN.{length}
 use Rattle.word.specs.Encoding.{row, named, put, kindOf}
 use Rattle.word.specs.Layout.{pairCount, tapeOf}
 use Rattle.masking.specs.Foretold.{foretoldTape}
+use Rattle.masking.specs.Reads.{readsOnly}
 use Rattle.word.proofs.Ranges.{both}
 use Rattle.plans.proofs.Tests.{every, each}
 use Rattle.binary64.specs.Operations.{Product, Sum, Floor, Truncate, Nearest}
-use Rattle.plans.specs.Cost.{Cost, Figures, readsOnly, ofKind}
+use Rattle.plans.specs.Cost.{Cost, Figures, ofKind}
 use Rattle.plans.specs.BuiltIns.{Described, described}
 use Rattle.plans.specs.ProductPlan.{productHead, carryRow, productRow, productRows, withExponents, highHalf, normalise, sticky, tests, roundPack, choose, productEnd, productTail, productSteps, productPlan}
 use Rattle.plans.specs.SumPlan.{sumPlan}

@@ -2,31 +2,14 @@
 -- tape words for each share count, by document 01's "2Q for each AND among them and 24Q for each ADD", 2Q = n(n−1); and that no register but
 -- the operands' is read before it is written.
 use mathlib.Core.Path.{_≡_}
-use mathlib.Core.Bool.{Bool, true, false, _&&_, _||_, cond}
+use mathlib.Core.Bool.{cond}
 use mathlib.Core.List.{List, [], _∷_}
 use Prim.Native.Nat.{ℕ, _+_, _-_, _*_, _≤_}
 use lib.Dec.{T, eqb}
 use lib.ListN.{length}
-use Rattle.word.specs.declared.step.Decoded.{Decoded}
-use Rattle.word.specs.declared.step.Decoded.the-variants.{Good, Bad}
-use Rattle.word.specs.Encoding.{planStep, kindOf}
-use Rattle.word.specs.Table.{dest, reads, allIn}
+use Rattle.word.specs.Encoding.{kindOf}
 use Rattle.masking.specs.Foretold.{foretoldTape}
-
-abbrev pub memberOf : List ℕ → ℕ → Bool
-memberOf [] r = false
-memberOf (q ∷ qs) r = eqb q r || memberOf qs r
-
--- a word read: a step reads only known registers, and the one that it writes is known to the rest
-abbrev pub reading : Decoded → List ℕ → (List ℕ → Bool) → Bool
-reading (Good s) known rest = allIn (memberOf known) (reads s) && rest (dest s ∷ known)
-reading Bad known rest = false
-
--- a test that walks a plan's words in order: each step reads only registers that are known at the start or written by an earlier step. A bad
--- word fails it.
-abbrev pub readsOnly : List ℕ → List ℕ → Bool
-readsOnly [] known = true
-readsOnly (w ∷ ws) known = reading (planStep w) known (readsOnly ws)
+use Rattle.masking.specs.Reads.{readsOnly}
 
 -- `operands`: the registers that hold operands at the start
 pub record Cost (plan operands : List ℕ) (ceiling : ℕ) : Type 0 where

@@ -1,0 +1,51 @@
+-- What a plan reads and what its shares depend on, which document 01 leaves free ("Its words are the team's choice"): a test that no register is
+-- read but those known at the start and those written before, and the statement that such a plan's results go by the known registers and the tape
+-- alone, whatever all other cells hold at the start.
+use mathlib.Core.Path.{_≡_}
+use mathlib.Core.Bool.{Bool, true, false, _&&_, _||_}
+use mathlib.Core.List.{List, [], _∷_}
+use Prim.Native.Nat.{ℕ, _≤_, _<_}
+use lib.Dec.{T, eqb}
+use lib.ListN.{length, getD}
+use Rattle.word.specs.declared.step.Decoded.{Decoded}
+use Rattle.word.specs.declared.step.Decoded.the-variants.{Good, Bad}
+use Rattle.word.specs.Encoding.{planStep}
+use Rattle.word.specs.Layout.{cell}
+use Rattle.word.specs.Table.{dest, reads, allIn}
+use Rattle.masking.specs.Translation.{program}
+use Rattle.masking.specs.Machine.{exec}
+
+abbrev pub memberOf : List ℕ → ℕ → Bool
+memberOf [] r = false
+memberOf (q ∷ qs) r = eqb q r || memberOf qs r
+
+-- a word read: a step reads only known registers, and the one that it writes is known to the rest
+abbrev pub reading : Decoded → List ℕ → (List ℕ → Bool) → Bool
+reading (Good s) known rest = allIn (memberOf known) (reads s) && rest (dest s ∷ known)
+reading Bad known rest = false
+
+-- a test that walks a plan's words in order: each step reads only registers that are known at the start or written by an earlier step. A bad
+-- word fails it.
+abbrev pub readsOnly : List ℕ → List ℕ → Bool
+readsOnly [] known = true
+readsOnly (w ∷ ws) known = reading (planStep w) known (readsOnly ws)
+
+-- the registers known after a word, and after a plan's words: those known before, and each one written
+abbrev pub written : Decoded → List ℕ → List ℕ
+written (Good s) known = dest s ∷ known
+written Bad known = known
+
+abbrev pub knownAfter : List ℕ → List ℕ → List ℕ
+knownAfter [] known = known
+knownAfter (w ∷ ws) known = knownAfter ws (written (planStep w) known)
+
+-- two lists of cells hold the same n shares of each of these registers
+abbrev pub AgreeIn : ℕ → List ℕ → List ℕ → List ℕ → Type 0
+AgreeIn n ks c c′ = (i r : ℕ) → i < n → r < 32 → T (memberOf ks r) → getD c (cell i r) 0 ≡ getD c′ (cell i r) 0
+
+-- over one tape, a plan that reads only known registers and those written before leaves the same shares in all of them, whatever the other cells
+-- hold at the start
+abbrev pub KnownDecide : Type 0
+KnownDecide =
+    (n : ℕ) → n ≤ 8 → (plan known tape c c′ : List ℕ) → T (readsOnly plan known) → length c ≡ 512 → length c′ ≡ 512 → AgreeIn n known c c′
+    → AgreeIn n (knownAfter plan known) (exec (program n plan) tape c) (exec (program n plan) tape c′)
