@@ -3,7 +3,7 @@
 use mathlib.Core.Path.{_≡_, refl, sym, ap, ap₂, _∙_}
 use mathlib.Core.Bool.{Bool, true}
 use mathlib.Core.List.{List, [], _∷_, _++_, map, append-assoc}
-use Prim.Native.Nat.{ℕ, zero, suc}
+use Prim.Native.Nat.{ℕ, zero, suc, _≤_}
 use native.Mathlib.Omega.{arith}
 use lib.Dec.{T, eqb}
 use lib.ListN.{length, take, length-take}
@@ -150,7 +150,7 @@ steps-of-words (s ∷ ss) h =
     let e = both (inProgram s) (allOf inProgram ss) h in
     ap₂ withStep (program-exact .back s (e .0) .1) (steps-of-words ss (e .1))
 
--- ---- an accepted plan
+-- ---- the steps of a plan without a bad word
 
 steps-within : (plan : List ℕ) → PlanWords plan → All (λ s. T (within 40 s)) (planSteps plan)
 steps-within [] h = tt
@@ -158,23 +158,35 @@ steps-within (w ∷ ws) h =
     all-append (λ s. T (within 40 s)) (stepsFor (planStep w)) (planSteps ws)
     (rw (h .0 .apart) (laid-within (h .0 .step) (h .0 .inRange))) (steps-within ws (h .1))
 
+module _ (n : ℕ) (most : n ≤ 8) (plan : List ℕ) (words : PlanWords plan) where
+  -- its share steps are those of a share program
+  pub words-good : All (λ s. T (inProgram s)) (blocks scratch n (planSteps plan))
+  words-good = blocks-good n most (planSteps plan) (steps-within plan words)
+
+  -- the share steps of the first m words
+  words-take : (m : ℕ) → stepsOf (take m (program n plan)) ≡ take m (blocks scratch n (planSteps plan))
+  words-take m =
+      ap (λ (r : List ℕ). stepsOf (take m r)) (program-words n plan) ∙ ap stepsOf (map-take m (blocks scratch n (planSteps plan)))
+      ∙ steps-of-words (take m (blocks scratch n (planSteps plan)))
+      (all-tested inProgram (take m (blocks scratch n (planSteps plan))) (all-take (λ s. T (inProgram s)) m (blocks scratch n (planSteps plan)) words-good))
+
+  pub words-steps : stepsOf (program n plan) ≡ blocks scratch n (planSteps plan)
+  words-steps =
+      ap stepsOf (program-words n plan)
+      ∙ steps-of-words (blocks scratch n (planSteps plan)) (all-tested inProgram (blocks scratch n (planSteps plan)) words-good)
+
+-- ---- an accepted plan
+
 module _ (n : ℕ) (plan : List ℕ) (A : Accepted n plan) where
   -- its steps are on 40 registers
   pub plan-within : All (λ s. T (within 40 s)) (planSteps plan)
   plan-within = steps-within plan (plan-words plan (A .good))
 
-  -- its share steps are those of a share program
   pub plan-good : All (λ s. T (inProgram s)) (blocks scratch n (planSteps plan))
-  plan-good = blocks-good n (A .most) (planSteps plan) plan-within
+  plan-good = words-good n (A .most) plan (plan-words plan (A .good))
 
-  -- the share steps of the first m words
   pub take-steps : (m : ℕ) → stepsOf (take m (program n plan)) ≡ take m (blocks scratch n (planSteps plan))
-  take-steps m =
-      ap (λ (r : List ℕ). stepsOf (take m r)) (program-words n plan) ∙ ap stepsOf (map-take m (blocks scratch n (planSteps plan)))
-      ∙ steps-of-words (take m (blocks scratch n (planSteps plan)))
-      (all-tested inProgram (take m (blocks scratch n (planSteps plan))) (all-take (λ s. T (inProgram s)) m (blocks scratch n (planSteps plan)) plan-good))
+  take-steps = words-take n (A .most) plan (plan-words plan (A .good))
 
   pub program-steps : stepsOf (program n plan) ≡ blocks scratch n (planSteps plan)
-  program-steps =
-      ap stepsOf (program-words n plan)
-      ∙ steps-of-words (blocks scratch n (planSteps plan)) (all-tested inProgram (blocks scratch n (planSteps plan)) plan-good)
+  program-steps = words-steps n (A .most) plan (plan-words plan (A .good))

@@ -13,8 +13,8 @@ use Rattle.bits.proofs.Shift.{shl-xor, shr-xor, spread-xor, shl-zero}
 use Rattle.word.specs.declared.step.Step.{Step}
 use Rattle.word.specs.declared.step.Step.the-variants.{Const, Xor, And, Not, Shl, Shr, Spread, Add, Rand}
 use Rattle.word.specs.Encoding.{within}
-use Rattle.word.specs.Table.{dest, becomes}
-use Rattle.masking.specs.Translation.{upFrom, shares, shareCell, firstOther, Scratch, block}
+use Rattle.word.specs.Table.{dest, reads, becomes}
+use Rattle.masking.specs.Translation.{upFrom, shares, shareCell, shareStep, firstOther, Scratch, block}
 use Rattle.masking.specs.Unsplit.{xorOver}
 use Rattle.word.proofs.Ranges.{within-cells}
 use Rattle.masking.proofs.emitted.Places.{Places}
@@ -75,6 +75,34 @@ Once (Shr d a b) = Unit {0}
 Once (Spread d a) = Unit {0}
 Once (Add d a b) = ⊥
 Once (Rand d) = ⊥
+
+-- share i's step of a kind that is once per share writes share i
+pub share-dest : (s : Step) → Once s → (i : ℕ) → dest (shareStep s i) ≡ shareCell i (dest s)
+share-dest (Const d k) o zero = refl
+share-dest (Const d k) o (suc i) = refl
+share-dest (Xor d a b) o i = refl
+share-dest (And d a b) o i = absurd o
+share-dest (Not d a) o zero = refl
+share-dest (Not d a) o (suc i) = refl
+share-dest (Shl d a b) o i = refl
+share-dest (Shr d a b) o i = refl
+share-dest (Spread d a) o i = refl
+share-dest (Add d a b) o i = absurd o
+share-dest (Rand d) o i = absurd o
+
+-- share i's step of a kind that is once per share reads shares i
+pub share-reads : (s : Step) → Once s → (i : ℕ) → reads (shareStep s i) ≡ map (shareCell i) (reads s)
+share-reads (Const d k) o zero = refl
+share-reads (Const d k) o (suc i) = refl
+share-reads (Xor d a b) o i = refl
+share-reads (And d a b) o i = absurd o
+share-reads (Not d a) o zero = refl
+share-reads (Not d a) o (suc i) = refl
+share-reads (Shl d a b) o i = refl
+share-reads (Shr d a b) o i = refl
+share-reads (Spread d a) o i = refl
+share-reads (Add d a b) o i = absurd o
+share-reads (Rand d) o i = absurd o
 
 module _ (n w : ℕ) (C : Scratch) (L : Places n w C) where
   -- a word made of one share's cells stays as it is where another share's cell is written

@@ -33,7 +33,7 @@ use Rattle.masking.proofs.joined.Add.{adding-laid, adding-sum}
 -- ---- one plan step
 
 -- laid out, it has share steps
-laid-kinds : (s : Step) → T (inPlan s) → All (λ s. T (laid s)) (laidOut s)
+pub laid-kinds : (s : Step) → T (inPlan s) → All (λ s. T (laid s)) (laidOut s)
 laid-kinds (Const d k) h = (tt, tt)
 laid-kinds (Xor d a b) h = (tt, tt)
 laid-kinds (And d a b) h = (tt, tt)

@@ -1,10 +1,10 @@
 -- AND's scratch cells after a plan: an AND leaves them zero, whatever the start and the tape, and no other step on registers writes them. So
 -- they are zero after the share program of a plan's first k words if one of these is AND or ADD. Rests on Zeroed and emitted's Steps.
-use mathlib.Core.Path.{_≡_, refl, sym, ap, _∙_, subst}
+use mathlib.Core.Path.{_≡_, sym, ap, _∙_, subst}
 use mathlib.Core.Bool.{Bool, false, _||_}
 use mathlib.Core.List.{List, [], _∷_, _++_, map}
 use mathlib.Core.Logic.{_⊎_, inl, inr, ⊎-elim}
-use Prim.Native.Nat.{ℕ, zero, suc}
+use Prim.Native.Nat.{ℕ}
 use native.Mathlib.Omega.{arith}
 use lib.Dec.{T, eqb}
 use lib.ListN.{length, take}
@@ -12,7 +12,7 @@ use Rattle.word.specs.declared.step.Step.{Step}
 use Rattle.word.specs.declared.step.Step.the-variants.{Const, Xor, And, Not, Shl, Shr, Spread, Add, Rand}
 use Rattle.word.specs.Encoding.{kindOf, within, kindNumber, planStep}
 use Rattle.word.specs.Table.{dest, Each}
-use Rattle.masking.specs.Translation.{shareCell, cellsOf, shares, shareStep, Scratch, scratch, scratchCells, wiping, andSteps, andBlock, block, blocks, adding, laidOut, program}
+use Rattle.masking.specs.Translation.{cellsOf, shares, shareStep, Scratch, scratch, scratchCells, wiping, andSteps, andBlock, block, blocks, adding, laidOut, program}
 use Rattle.masking.specs.Foretold.{Accepted}
 use Rattle.masking.specs.Machine.{exec, execSteps, Words}
 use Rattle.masking.specs.Wiped.{holdsAndOrAdd, Wiped}
@@ -22,7 +22,7 @@ use Rattle.masking.proofs.emitted.Wiping.{Aside, scratch-aside, scratch
 use Rattle.masking.proofs.emitted.Steps.{PlanWords, plan-words, stepsFor, planSteps, take-accepted, program-steps, plan-good, plan-within}
 use Rattle.masking.proofs.joined.Cells.{Cells, within-dest, at, exec-on}
 use Rattle.masking.proofs.joined.After.{after, after-mono, after-then, after-run, after-off, after-any, Off}
-use Rattle.masking.proofs.joined.Once.{Once}
+use Rattle.masking.proofs.joined.Once.{Once, share-dest}
 use Rattle.masking.proofs.joined.Zeroed.{Zeroed, wiping-zeroes}
 
 -- ---- steps on registers
@@ -46,20 +46,6 @@ any-right (s ∷ ss) ts h = or-right (isAnd s) _ (any-right ss ts h)
 were : {P : Type 0} → ⊥ ⊎ P → P
 were (inl x) = absurd x
 were (inr z) = z
-
--- share i's step of a kind that is once per share writes share i
-share-dest : (s : Step) → Once s → (i : ℕ) → dest (shareStep s i) ≡ shareCell i (dest s)
-share-dest (Const d k) o zero = refl
-share-dest (Const d k) o (suc i) = refl
-share-dest (Xor d a b) o i = refl
-share-dest (And d a b) o i = absurd o
-share-dest (Not d a) o zero = refl
-share-dest (Not d a) o (suc i) = refl
-share-dest (Shl d a b) o i = refl
-share-dest (Shr d a b) o i = refl
-share-dest (Spread d a) o i = refl
-share-dest (Add d a b) o i = absurd o
-share-dest (Rand d) o i = absurd o
 
 module _ (n w : ℕ) (C : Scratch) (L : Places n w C) where
   abbrev Zero : Cells → Type 0

@@ -1,0 +1,92 @@
+-- Known registers decide a plan's results (`known-decide`): its words' steps on registers read known registers alone, and so do their share steps
+-- by DecidedBlocks. Rests also on emitted's Steps (words as steps).
+use mathlib.Core.Path.{_≡_, refl, sym, ap, _∙_}
+use mathlib.Core.Bool.{not}
+use mathlib.Core.List.{List, [], _∷_}
+use mathlib.Core.Logic.{inl, inr}
+use Prim.Native.Nat.{ℕ, _<_}
+use lib.Dec.{T, eqb, eqb→eq}
+use lib.ListN.{length}
+use Rattle.word.specs.declared.step.Step.{Step}
+use Rattle.word.specs.declared.step.Decoded.{Decoded}
+use Rattle.word.specs.declared.step.Decoded.the-variants.{Good, Bad}
+use Rattle.word.specs.Encoding.{kindNumber, within, inPlan, planStep}
+use Rattle.word.specs.Layout.{cell}
+use Rattle.word.specs.Table.{dest, reads, Each, allIn}
+use Rattle.word.proofs.Ranges.{both, tested-each, within-cells}
+use Rattle.word.proofs.Together.{taken-rule}
+use Rattle.masking.specs.Translation.{scratch, blocks, laidOut, program}
+use Rattle.masking.specs.Machine.{exec, execSteps}
+use Rattle.masking.specs.Reads.{memberOf, reading, readsOnly, knownAfter, KnownDecide}
+use Rattle.masking.proofs.emitted.Tests.{or-elim}
+use Rattle.masking.proofs.emitted.Places.{share-register}
+use Rattle.masking.proofs.emitted.Steps.{PlanWords, taken-kind, planSteps, blocks-append, words-good, words-steps}
+use Rattle.masking.proofs.joined.Cells.{Cells, at, stepsOn, exec-on}
+use Rattle.masking.proofs.joined.Plan.{laid-kinds}
+use Rattle.masking.proofs.joined.Decided.{Some, plus, Decides, Same, run-same, decides-to, decides-then}
+use Rattle.masking.proofs.joined.DecidedBlocks.{SharesOf, blocks-decide, laid-decides}
+
+-- it has no bad word
+reads-words : (plan known : List ℕ) → T (readsOnly plan known) → PlanWords plan
+reads-words [] known h = tt
+reads-words (w ∷ ws) known h = by (planStep w) refl (reads-words ws) h
+  where
+    by : (d : Decoded) → planStep w ≡ d → ((ks : List ℕ) → T (readsOnly ws ks) → PlanWords ws) → T (reading d known (readsOnly ws)) → PlanWords (w ∷ ws)
+    by (Good s) e rest t = (
+      record { step = s; apart = e; inRange = taken-rule inPlan w s e; kind = taken-kind inPlan w s e },
+      rest (dest s ∷ known) (both (allIn (memberOf known) (reads s)) (readsOnly ws (dest s ∷ known)) t .1),
+    )
+    by Bad e rest t = absurd t
+
+-- registers that are known
+abbrev Known : List ℕ → Some
+Known ks r = (r < 32) × T (memberOf ks r)
+
+-- a step that reads only known ones
+reads-known : (known : List ℕ) (rs : List ℕ) → Each (λ r. r < 32) rs → Each (λ r. T (memberOf known r)) rs → Each (Known known) rs
+reads-known known [] l h = tt
+reads-known known (r ∷ rs) l h = ((l .0, h .0), reads-known known rs (l .1) (h .1))
+
+module _ (n : ℕ) where
+  step-decides : (known : List ℕ) (s : Step) → T (inPlan s) → T (allIn (memberOf known) (reads s))
+      → Decides (SharesOf n (Known known)) (blocks scratch n (laidOut s)) (SharesOf n (Known (dest s ∷ known)))
+  step-decides known s h t =
+      blocks-decide scratch n (laidOut s) (laid-kinds s h) (Known known) (Known (dest s ∷ known))
+      (decides-to (Known known) (plus (dest s) (Known known)) (Known (dest s ∷ known)) (laidOut s) more
+      (laid-decides (Known known) s h (reads-known known (reads s) (within-cells 32 s registers .1) (tested-each (memberOf known) (reads s) t))))
+    where
+      registers : T (within 32 s)
+      registers = both (not (eqb (kindNumber s) 9)) (within 32 s) h .1
+
+      more : (r : ℕ) → Known (dest s ∷ known) r → plus (dest s) (Known known) r
+      more r q = or-elim (eqb (dest s) r) (memberOf known r) (λ e. inl (sym (eqb→eq (dest s) r e))) (λ m. inr (q .0, m)) (q .1)
+
+  plan-decides : (plan : List ℕ) → PlanWords plan → (known : List ℕ) → T (readsOnly plan known)
+      → Decides (SharesOf n (Known known)) (blocks scratch n (planSteps plan)) (SharesOf n (Known (knownAfter plan known)))
+  plan-decides [] p known h = λ k q. q
+  plan-decides (w ∷ ws) p known h =
+      let s = p .0 .step in
+      let t = both (allIn (memberOf known) (reads s)) (readsOnly ws (dest s ∷ known)) (rw (p .0 .apart) at h) in
+      rw (p .0 .apart, blocks-append scratch n (laidOut s) (planSteps ws))
+      (decides-then (SharesOf n (Known known)) (SharesOf n (Known (dest s ∷ known))) (SharesOf n (Known (knownAfter ws (dest s ∷ known))))
+      (blocks scratch n (laidOut s)) (blocks scratch n (planSteps ws)) (step-decides known s (p .0 .inRange) (t .0)) (plan-decides ws (p .1) (dest s ∷ known) (t .1)))
+
+-- the law
+pub known-decide : KnownDecide
+known-decide n most plan known tape c c′ h size size′ agree i r li lr m =
+    run c size ∙ run-same _ _ ss (plan-decides n plan words known h) tape (at c) (at c′) start (cell i r) (i, li, r, (lr, m), sym (share-register i r lr))
+    ∙ sym (run c′ size′)
+  where
+    ss : List Step
+    ss = blocks scratch n (planSteps plan)
+
+    words : PlanWords plan
+    words = reads-words plan known h
+
+    run : (l : List ℕ) → length l ≡ 512 → at (exec (program n plan) tape l) (cell i r) ≡ stepsOn ss tape (at l) (cell i r)
+    run l e =
+        ap (λ (x : List Step). at (execSteps x tape l) (cell i r)) (words-steps n most plan words)
+        ∙ ap (λ (f : Cells). f (cell i r)) (exec-on ss (words-good n most plan words) l tape e)
+
+    start : Same (SharesOf n (Known known)) (at c) (at c′)
+    start k (j, l, x, q, e) = rw (e, share-register j x (q .0)) (agree j x l (q .0) (q .1))
