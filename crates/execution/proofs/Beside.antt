@@ -1,14 +1,14 @@
 -- A plan's run where cells from 352 on hold something else: it leaves them as they are, and the result's shares are those of the run over zeros
 -- (`after-beside`). The result goes by the tape words foretold alone (`result-part`). Rests on masking's Low and Beside, and on Plans.
-use mathlib.Core.Path.{_≡_, refl, sym, ap, ap₂, _∙_}
-use mathlib.Core.List.{List, [], _∷_, _++_, map}
-use Prim.Native.Nat.{ℕ, zero, suc, _+_, _≤_, _<_}
+use mathlib.Core.Path.{_≡_, refl, sym, ap, _∙_}
+use mathlib.Core.List.{List, [], _∷_, _++_}
+use Prim.Native.Nat.{ℕ, suc, _+_, _≤_, _<_}
 use native.Mathlib.Omega.{arith}
 use lib.ListN.{length, getD, set, take, drop, replicate, length-append, length-take, length-drop, length-set, length-map, length-replicate, List·getD-append}
 use lib.Seq.{set-append-left, drop-at}
 use Rattle.word.specs.declared.step.Step.{Step}
 use Rattle.word.specs.Layout.{cell}
-use Rattle.masking.specs.Translation.{upFrom, shares, program}
+use Rattle.masking.specs.Translation.{shares, program}
 use Rattle.masking.specs.Foretold.{Accepted, foretoldTape}
 use Rattle.masking.specs.Machine.{stepsOf, execSteps, randsOf}
 use Rattle.masking.proofs.emitted.Rising.{length-from}
@@ -19,7 +19,7 @@ use Rattle.masking.proofs.InARow.{exec-steps-size}
 use Rattle.gadgets.specs.Effects.{Enough, Ran}
 use Rattle.execution.specs.Inner.{machineCells}
 use Rattle.execution.specs.Shares.{placedIn, placed, finished, sharesOf, resultShares}
-use Rattle.execution.proofs.Filling.{placed-size}
+use Rattle.execution.proofs.Filling.{shares-same, placed-size}
 use Rattle.execution.proofs.Plans.{finished-is}
 
 -- ---- operands and results beside other cells
@@ -33,11 +33,8 @@ placed-beside r i (v ∷ x) low high lr few size =
 
 -- and so do the result's
 shares-beside : (n : ℕ) → n ≤ 8 → (low high : List ℕ) → length low ≡ machineCells → sharesOf n 2 (low ++ high) ≡ sharesOf n 2 low
-shares-beside n small low high size = from 0 n (omega arith)
-  where
-    from : (s c : ℕ) → s + c ≤ 8 → map (λ i. getD (low ++ high) (cell i 2) 0) (upFrom s c) ≡ map (λ i. getD low (cell i 2) 0) (upFrom s c)
-    from s zero h = refl
-    from s (suc c) h = ap₂ _∷_ (List·getD-append low high 0 (cell s 2) (omega arith)) (from (suc s) c (omega arith))
+shares-beside n small low high size =
+    shares-same n (λ i. getD (low ++ high) (cell i 2) 0) (λ i. getD low (cell i 2) 0) (λ i l. List·getD-append low high 0 (cell i 2) (omega arith))
 
 -- ---- a plan's run
 

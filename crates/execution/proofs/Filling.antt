@@ -1,9 +1,10 @@
--- Slices filled word by word: zeros, operands placed, the result copied out. Rests on masking's Rising.
+-- Slices filled word by word: zeros, operands placed, the result copied out; and what the cells hold once an operand is placed. Rests on masking's
+-- Rising.
 use mathlib.Core.Path.{_≡_, refl, sym, ap, _∙_, subst}
 use mathlib.Core.List.{List, [], _∷_, _++_, map}
 use mathlib.Core.Logic.{_≢_}
 use mathlib.Core.Bool.{Bool, true, false}
-use Prim.Native.Nat.{ℕ, suc, _+_, _-_, _*_, _≤_, _<_}
+use Prim.Native.Nat.{ℕ, zero, suc, _+_, _-_, _*_, _≤_, _<_}
 use native.Mathlib.Nat.{zero-add, add-zero}
 use native.Mathlib.Decide.{ℕ-discrete}
 use native.Mathlib.Numerals.{add-one}
@@ -70,6 +71,11 @@ all-filled F l n e f =
     ext-getD 0 l (map F (shares n)) (e ∙ sym (length-map (shares n) F ∙ length-from 0 n))
     (λ i h. f i (omega arith) ∙ sym (getD-from F 0 n i (omega arith) ∙ ap F (zero-add i)))
 
+-- lists over the shares, entry by entry
+pub shares-same : (n : ℕ) (F G : ℕ → ℕ) → ((i : ℕ) → i < n → F i ≡ G i) → map F (shares n) ≡ map G (shares n)
+shares-same n F G h =
+    all-filled G (map F (shares n)) n (length-map (shares n) F ∙ length-from 0 n) (λ i l. getD-from F 0 n i l ∙ ap F (zero-add i) ∙ h i l)
+
 -- an operand's shares
 pub placed-turn : (r i : ℕ) (x cells : List ℕ) → i < length x → placedIn r i (drop i x) cells ≡ placedIn r (i + 1) (drop (i + 1) x) (set cells (cell i r) (getD x i 0))
 placed-turn r i x cells h =
@@ -98,3 +104,21 @@ both-placed i x y cells h e =
 pub placed-size : (r i : ℕ) (x cells : List ℕ) → length (placedIn r i x cells) ≡ length cells
 placed-size r i [] cells = refl
 placed-size r i (v ∷ x) cells = placed-size r (suc i) x (set cells (cell i r) v) ∙ length-set cells (cell i r) v
+
+-- a cell that is none of these
+pub placed-other : (r i : ℕ) (x cells : List ℕ) (k : ℕ) → ((j : ℕ) → i ≤ j → j < i + length x → k ≡ cell j r → ⊥) → getD (placedIn r i x cells) k 0 ≡ getD cells k 0
+placed-other r i [] cells k h = refl
+placed-other r i (v ∷ x) cells k h =
+    placed-other r (suc i) x (set cells (cell i r) v) k (λ j l m. h j (omega arith) (omega arith)) ∙ getD-set-other cells (cell i r) k v 0 (h i (omega arith) (omega arith))
+
+-- and one of them
+pub placed-share : (r i : ℕ) (x cells : List ℕ) (j : ℕ) → r < 32 → i + length x ≤ 8 → length cells ≡ 512 → j < length x
+    → getD (placedIn r i x cells) (cell (i + j) r) 0 ≡ getD x j 0
+placed-share r i [] cells j lr few size h = absurd (omega arith)
+placed-share r i (v ∷ x) cells zero lr few size h =
+    placed-other r (suc i) x (set cells (cell i r) v) (cell (i + 0) r) (λ j l m e. omega arith)
+    ∙ ap (λ (k : ℕ). getD (set cells (cell i r) v) (cell k r) 0) (add-zero i) ∙ getD-set-same cells (cell i r) v 0 (omega arith)
+placed-share r i (v ∷ x) cells (suc j) lr few size h =
+    let e : i + suc j ≡ suc i + j = omega arith in
+    ap (λ (k : ℕ). getD (placedIn r (suc i) x (set cells (cell i r) v)) (cell k r) 0) e
+    ∙ placed-share r (suc i) x (set cells (cell i r) v) j lr (omega arith) (length-set cells (cell i r) v ∙ size) (omega arith)

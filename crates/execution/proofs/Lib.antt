@@ -1,5 +1,5 @@
 -- For a call over any plan: tape words (Tape), slices filled (Filling), a plan's words in order and the share run (Plans), answers (Answering),
--- what a call leaves (Acting), a call with one operand (OneOperand), and a plan's run beside other cells (Beside).
+-- what a call leaves (Acting), a call with one operand (OneOperand), a plan's run beside other cells (Beside), and over cells that were not cleared (Known).
 pub mod Tape
 pub mod Filling
 pub mod Plans
@@ -7,3 +7,4 @@ pub mod Answering
 pub mod Acting
 pub mod OneOperand
 pub mod Beside
+pub mod Known

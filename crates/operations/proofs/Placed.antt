@@ -5,8 +5,7 @@ use Prim.Native.Nat.{ℕ, zero, suc, _+_, _≤_, _<_}
 use native.Mathlib.Nat.{add-zero, zero-add}
 use native.Mathlib.Omega.{arith}
 use native.Mathlib.Decide.{decLt}
-use lib.ListN.{length, getD, set, replicate, length-set, getD-replicate, List·getD-eq-default}
-use lib.Seq.{getD-set-same, getD-set-other}
+use lib.ListN.{length, getD, set, replicate, getD-replicate, List·getD-eq-default}
 use lib.Pow.{pow-pos}
 use Rattle.bits.specs.Ops.{xorW}
 use Rattle.bits.proofs.Xor.{xor-zero}
@@ -17,7 +16,7 @@ use Rattle.masking.specs.Unsplit.{xorOver, joined}
 use Rattle.masking.specs.Secrecy.{Agree}
 use Rattle.plain.proofs.Laws.{set-words}
 use Rattle.masking.proofs.joined.Sums.{sum-same}
-use Rattle.execution.proofs.Filling.{placed-size}
+use Rattle.execution.proofs.Filling.{placed-size, placed-other, placed-share}
 use Rattle.execution.specs.Shares.{placedIn, placed}
 use Rattle.splitting.specs.SplitJoin.{xorAll}
 
@@ -38,24 +37,14 @@ in-words : (r i : ℕ) (x cells : List ℕ) → Words x → Words cells → Word
 in-words r i [] cells wx w = w
 in-words r i (v ∷ x) cells wx w = in-words r (suc i) x (set cells (cell i r) v) (λ k. wx (suc k)) (set-words cells (cell i r) v w (wx 0))
 
--- a cell that is none of these shares'
-in-other : (r i : ℕ) (x cells : List ℕ) (k : ℕ) → ((j : ℕ) → i ≤ j → k ≡ cell j r → ⊥) → getD (placedIn r i x cells) k 0 ≡ getD cells k 0
-in-other r i [] cells k h = refl
-in-other r i (v ∷ x) cells k h =
-    in-other r (suc i) x (set cells (cell i r) v) k (λ j l. h j (omega arith)) ∙ getD-set-other cells (cell i r) k v 0 (h i (omega arith))
-
 -- share i + j of cells that are 0 there: past the operand's end both are 0
 in-share : (r i : ℕ) (x cells : List ℕ) (j : ℕ) → r < 32 → i + length x ≤ 8 → length cells ≡ 512 → getD cells (cell (i + j) r) 0 ≡ 0
     → getD (placedIn r i x cells) (cell (i + j) r) 0 ≡ getD x j 0
-in-share r i [] cells j lr few size z = z
-in-share r i (v ∷ x) cells zero lr few size z =
-    in-other r (suc i) x (set cells (cell i r) v) (cell (i + 0) r) (λ j l e. omega arith)
-    ∙ ap (λ (k : ℕ). getD (set cells (cell i r) v) (cell k r) 0) (add-zero i) ∙ getD-set-same cells (cell i r) v 0 (omega arith)
-in-share r i (v ∷ x) cells (suc j) lr few size z =
-    let e : i + suc j ≡ suc i + j = omega arith in
-    ap (λ (k : ℕ). getD (placedIn r (suc i) x (set cells (cell i r) v)) (cell k r) 0) e
-    ∙ in-share r (suc i) x (set cells (cell i r) v) j lr (omega arith) (length-set cells (cell i r) v ∙ size)
-    (getD-set-other cells (cell i r) (cell (suc i + j) r) v 0 (λ q. omega arith) ∙ ap (λ (k : ℕ). getD cells (cell k r) 0) (sym e) ∙ z)
+in-share r i x cells j lr few size z = by (decLt j (length x))
+  where
+    by : Dec (j < length x) → getD (placedIn r i x cells) (cell (i + j) r) 0 ≡ getD x j 0
+    by (yes h) = placed-share r i x cells j lr few size h
+    by (no h) = placed-other r i x cells (cell (i + j) r) (λ m a b e. omega arith) ∙ z ∙ sym (List·getD-eq-default x 0 {n = j} (omega arith))
 
 -- ---- the work slice
 abbrev zeros : List ℕ
@@ -78,7 +67,7 @@ module _ (x y : List ℕ) (fewX : length x ≤ 8) (fewY : length y ≤ 8) where
   pub register-0 : (i : ℕ) → getD (placed x y) (cell i 0) 0 ≡ getD x i 0
   unfolding placed
   register-0 i =
-      in-other 1 0 y withX (cell i 0) (λ j l e. omega arith)
+      placed-other 1 0 y withX (cell i 0) (λ j l m e. omega arith)
       ∙ ap (λ (k : ℕ). getD withX (cell k 0) 0) (sym (zero-add i))
       ∙ in-share 0 0 x zeros i (omega arith) (omega arith) refl (zero-at (cell (0 + i) 0))
 
@@ -86,12 +75,12 @@ module _ (x y : List ℕ) (fewX : length x ≤ 8) (fewY : length y ≤ 8) where
   unfolding placed
   register-1 i =
       ap (λ (k : ℕ). getD (placedIn 1 0 y withX) (cell k 1) 0) (sym (zero-add i))
-      ∙ in-share 1 0 y withX i (omega arith) (omega arith) withX-size (in-other 0 0 x zeros (cell (0 + i) 1) (λ j l e. omega arith) ∙ zero-at (cell (0 + i) 1))
+      ∙ in-share 1 0 y withX i (omega arith) (omega arith) withX-size (placed-other 0 0 x zeros (cell (0 + i) 1) (λ j l m e. omega arith) ∙ zero-at (cell (0 + i) 1))
 
   pub other-register : (i r : ℕ) → 2 ≤ r → r < 32 → getD (placed x y) (cell i r) 0 ≡ 0
   unfolding placed
   other-register i r l h =
-      in-other 1 0 y withX (cell i r) (λ j m e. omega arith) ∙ in-other 0 0 x zeros (cell i r) (λ j m e. omega arith) ∙ zero-at (cell i r)
+      placed-other 1 0 y withX (cell i r) (λ j m o e. omega arith) ∙ placed-other 0 0 x zeros (cell i r) (λ j m o e. omega arith) ∙ zero-at (cell i r)
 
   pub placed-start : Words x → Words y → Start (placed x y)
   unfolding placed
