@@ -5,7 +5,7 @@ import re
 
 ROOT = os.path.dirname(os.path.dirname(os.path.abspath(__file__)))
 SIZES = [(16, "sixteen"), (8, "eight"), (4, "four"), (2, "two"), (1, "linear")]
-AND, SHR, ADD = 3, 6, 8
+CONST, XOR, AND, SHR, ADD = 1, 2, 3, 6, 8
 
 
 def words_of(section):
@@ -26,6 +26,17 @@ def words_of(section):
 
 def literals(text):
     return [int(word, 16) for word in re.findall(r"\b0x([0-9A-Fa-f]{8})\b", text)]
+
+
+def reads_first(words):
+    """the registers but 0 and 1 that are read before they are written, and whether register 2 is written: what the proofs ask for"""
+    known, early = {0, 1}, set()
+    for word in words:
+        kind, d, a, b = word >> 28, word >> 18 & 511, word >> 9 & 511, word & 511
+        early |= ({a} if kind != CONST else set()) - known
+        early |= ({b} if kind in (XOR, AND, ADD) else set()) - known
+        known.add(d)
+    return sorted(early), 2 in known
 
 
 def cut(words):
@@ -100,6 +111,9 @@ class Plan:
         self.module, self.plan = section.get("plan", own).rsplit(".", 1)
         self.unfold, self.operands = section.get("unfold", "").split(), int(section["operands"])
         self.words = words_of(section)
+        early, result = reads_first(self.words)
+        if early or not result:
+            raise SystemExit(f"compile_plan: {name} " + (f"reads registers {early} before it writes them" if early else "does not write register 2"))
         self.runs, self.gates = cut(self.words)
         self.arms = arms_of(self.runs)
         self.rows = next((arm for arm in self.arms if arm.place is not None), None)

@@ -1,6 +1,6 @@
 -- A call over any plan, by its answer: what its parts ask for and what it leaves. The operation with a result slice of its own and the one in
 -- place, whose result slice is the first operand, are proved by it. So are both forms of the product (`operations`). Rests on Plans, Answering and Tape.
-use mathlib.Core.Path.{_≡_, ap, ap₂, _∙_}
+use mathlib.Core.Path.{_≡_, ap, _∙_}
 use mathlib.Core.List.{List}
 use Prim.Native.Nat.{ℕ, _-_, _*_, _≤_}
 use native.Mathlib.Omega.{arith}
@@ -9,7 +9,7 @@ use borrow.Author.Tests.{eq-eqb, ne-eqb}
 use Rattle.checks.specs.declared.answer.Answer.{Answer}
 use Rattle.masking.specs.Foretold.{Accepted, foretoldTape}
 use Rattle.execution.specs.Inner.{GoodPlan, TakesTape}
-use Rattle.execution.specs.Shares.{answerFor, finished, resultShares, callAnswer, resultAfter, workAfter, sharesOf}
+use Rattle.execution.specs.Shares.{answerFor, resultShares, callAnswer, resultAfter, workAfter, sharesOf}
 use Rattle.execution.proofs.Plans.{accepted}
 use Rattle.execution.proofs.Answering.{Ready, ready}
 use Rattle.execution.proofs.Tape.{by-units}
@@ -32,16 +32,14 @@ module _ (plan x y result work tape : List ℕ) where
       R : Ready plan (length x) (length y) (length result) (length work) (length tape)
       R = ready plan (length x) (length y) (length result) (length work) (length tape) a e z
 
-      pub to-finish : GoodPlan plan → Accepted (length x) plan × (length y ≤ 8) × (length work ≡ 512) × (foretoldTape (length x) plan ≤ length tape)
-      to-finish G =
-          (accepted G (R .least) (R .most), omega (arith, R .others, R .most), R .works, R .enough)
+      pub to-finish : GoodPlan plan → Accepted (length x) plan × (length y ≡ length x) × (length work ≡ 512) × (foretoldTape (length x) plan ≤ length tape)
+      to-finish G = (accepted G (R .least) (R .most), R .others, R .works, R .enough)
 
       pub to-end : {cells : ℕ} → cells ≡ length work → (length result ≤ 8) × (cells ≡ 512)
       to-end l = (omega (arith, R .results, R .most), l ∙ R .works)
 
-      pub acted : {cells res wrk : List ℕ} → length cells ≡ length work → cells ≡ finished plan (length x) x y tape
+      pub acted : (cells : List ℕ) {res wrk : List ℕ} → length cells ≡ length work → sharesOf (length x) 2 cells ≡ resultShares plan (length x) x y tape
           → (res ≡ sharesOf (length result) 2 cells) × (wrk ≡ replicate (length cells) 0) → Left a res wrk
-      unfolding resultShares
-      acted l f ended =
-          let shares-are = ended .0 ∙ ap₂ (λ (v : List ℕ) (m : ℕ). sharesOf m 2 v) f (R .results) in
+      acted cells l f ended =
+          let shares-are = ended .0 ∙ ap (λ (m : ℕ). sharesOf m 2 cells) (R .results) ∙ f in
           (e, (rw (← e, eq-eqb _ 0 z) shares-are, rw (← e, eq-eqb _ 0 z) (ended .1 ∙ ap (λ (k : ℕ). replicate k 0) (l ∙ R .works))))

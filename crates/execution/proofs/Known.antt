@@ -11,11 +11,14 @@ use Rattle.word.specs.Layout.{cell}
 use Rattle.word.specs.Table.{allIn}
 use Rattle.word.proofs.Ranges.{both}
 use Rattle.masking.specs.Translation.{program}
-use Rattle.masking.specs.Machine.{exec}
+use Rattle.masking.specs.Machine.{exec, stepsOf}
+use Rattle.masking.specs.Foretold.{Accepted, foretoldTape}
 use Rattle.masking.specs.Reads.{memberOf, readsOnly, knownAfter}
 use Rattle.masking.proofs.emitted.Tests.{or-elim}
 use Rattle.masking.proofs.joined.Known.{known-decide}
-use Rattle.execution.specs.Shares.{placedIn, placed, sharesOf}
+use Rattle.gadgets.specs.Effects.{Ran}
+use Rattle.execution.specs.Shares.{placedIn, placed, resultShares, sharesOf}
+use Rattle.execution.proofs.Plans.{finished-is}
 use Rattle.execution.proofs.Filling.{shares-same, placed-size, placed-other, placed-share}
 
 -- registers that are known are operands' registers
@@ -57,3 +60,13 @@ module _ (n : ℕ) (small : n ≤ 8) (x y : List ℕ) (sizeX : length x ≡ n) (
       shares-same n _ _
       (λ i l. known-decide n small plan known tape (over c) (over zeros) reads (over-size c ∙ size) (over-size zeros)
       (λ j r k lr m. same c zeros size refl j r k (below known low r m)) i 2 l (omega arith) writes)
+
+  -- the same of a plan's words done on the cells, with the operands placed over whatever these held
+  pub result-by : (plan tape : List ℕ) → Accepted n plan → foretoldTape n plan ≤ length tape → T (readsOnly plan (0 ∷ 1 ∷ [])) → T (memberOf (knownAfter plan (0 ∷ 1 ∷ [])) 2)
+      → (c : List ℕ) {begun cells : List ℕ} {next : ℕ} → length c ≡ 512 → begun ≡ placedIn 1 0 y (placedIn 0 0 x c) → Ran (stepsOf (program n plan)) tape 0 begun cells next
+      → sharesOf n 2 cells ≡ resultShares plan n x y tape
+  unfolding resultShares
+  result-by plan tape A h reads writes c size e r =
+      ap (sharesOf n 2) (r .cells ∙ ap (exec (program n plan) tape) e)
+      ∙ uncleared-result plan (0 ∷ 1 ∷ []) tape c tt reads writes size
+      ∙ ap (sharesOf n 2) (sym (finished-is n plan x y tape A h))

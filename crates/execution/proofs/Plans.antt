@@ -1,5 +1,5 @@
 -- The share run that a call's result is defined by, and a plan's words done on the cells, which leave the same. Rests on masking's InARow and Counts.
-use mathlib.Core.Path.{_≡_, refl, sym, ap, ap₂, _∙_}
+use mathlib.Core.Path.{_≡_, refl, ap, ap₂, _∙_}
 use mathlib.Core.List.{List}
 use Prim.Native.Nat.{ℕ, _-_, _≤_, min}
 use native.Mathlib.Omega.{arith}
@@ -17,7 +17,7 @@ use Rattle.masking.proofs.InARow.{each-run}
 use Rattle.execution.specs.Shares.{placed, finished}
 use Rattle.execution.specs.WholeRun.{WholeRun, RunsWhole}
 use Rattle.execution.specs.Inner.{GoodPlan}
-use Rattle.gadgets.specs.Effects.{Enough, Ran}
+use Rattle.gadgets.specs.Effects.{Enough}
 use Rattle.execution.proofs.Filling.{placed-size}
 
 -- a good plan is accepted for each share count
@@ -57,13 +57,10 @@ module _ (n : ℕ) (plan x y tape : List ℕ) (A : Accepted n plan) where
       ap (λ (a : Answer). afterCall a (exec (due P 0 (length P)) tape (placed x y)) (placed x y)) (whole-run .done h)
       ∙ ap (λ (p : List ℕ). exec p tape (placed x y)) all
 
-  -- the same of the plan's words done on the cells: they need no more tape than is foretold, and leave what is defined
+  -- the plan's words done on the cells need no more tape than is foretold
   module _ (h : foretoldTape n plan ≤ length tape) where
     pub enough-tape : Enough tape 0 (stepsOf P)
     enough-tape = omega (arith, plan-counts n plan A .tape)
-
-    pub finished-by : {begun cells : List ℕ} {next : ℕ} → begun ≡ placed x y → Ran (stepsOf P) tape 0 begun cells next → cells ≡ finished plan n x y tape
-    finished-by e r = r .cells ∙ ap (exec P tape) e ∙ sym (finished-is h)
 
 pub runs-whole : (plan : List ℕ) → GoodPlan plan → RunsWhole plan
 runs-whole plan G n l m x y tape = whole-run n plan x y tape (accepted G l m)

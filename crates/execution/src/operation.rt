@@ -1,12 +1,11 @@
-// The parts of a call over any plan: its answer, by the plan's tape words, the start of its work slice, and its end.
+// The parts of a call over any plan: its answer, by the plan's tape words, and its end.
 ghost use mathlib.Core.Path.{_≡_};
 ghost use Prim.Native.Nat.{_-_, _*_, _≤_};
 ghost use lib.ListN.{length, replicate};
 ghost use Rattle.word.specs.Layout.{planMax};
-ghost use Rattle.execution.specs.Shares.{answerFor, placed, sharesOf};
+ghost use Rattle.execution.specs.Shares.{answerFor, sharesOf};
 use crate::work::clear;
 use crate::work::copy_out;
-use crate::work::place;
 use checks::answer::Answer;
 use checks::share_count::is_share_count;
 use word::step_word::StepWord;
@@ -40,15 +39,6 @@ pub fn operation_answer(
         return Answer::refused(6);
     }
     Answer::done(0, needed)
-}
-
-// Zeros with the operands placed.
-pub fn begin(x: &[u64], y: &[u64], work: &mut [u64])
-    requires { ⌜ (length (now y) ≡ length (now x)) × (length (now x) ≤ 8) × (length (now work) ≡ 512) ⌝ }
-    ensures { λ _. ⌜ now (work .exit) ≡ placed (now (x .entry)) (now (y .entry)) ⌝ }
-{
-    clear(work, StepWord::REGISTERS * x.len());
-    place(x, y, work);
 }
 
 // The result copied out, and zeros again.

@@ -52,7 +52,7 @@ pub fn clear(cells: &mut [u64], cut: usize)
 }
 
 // Operands' shares into registers 0 and 1, in turn: one operand's share 1 does not follow its share 0 through a register.
-pub(crate) fn place(x: &[u64], y: &[u64], cells: &mut [u64])
+pub fn place(x: &[u64], y: &[u64], cells: &mut [u64])
     requires { ⌜ (length (now y) ≡ length (now x)) × (length (now x) ≤ 8) × (length (now cells) ≡ 512) ⌝ }
     ensures { λ _. ⌜ now (cells .exit) ≡ placedIn 1 0 (now (y .entry)) (placedIn 0 0 (now (x .entry)) (now (cells .entry))) ⌝ }
 {

@@ -5,24 +5,24 @@ ghost use Prim.Native.Nat.{_≤_};
 ghost use lib.ListN.{length};
 ghost use Rattle.masking.specs.Foretold.{Accepted, foretoldTape};
 ghost use Rattle.plans.specs.FloorPlan.{floorPlan};
-ghost use Rattle.execution.specs.Shares.{callAnswer, finished, resultAfter, workAfter, zerosFor};
+ghost use Rattle.execution.specs.Shares.{callAnswer, resultAfter, resultShares, sharesOf, workAfter, zerosFor};
 use crate::done;
 use checks::answer::Answer;
 use execution::one_operand::NONE;
 use execution::one_operand::at_most_eight;
-use execution::operation::begin;
 use execution::operation::end;
 use execution::operation::operation_answer;
+use execution::work::place;
 
 // The plan's tape words, in units of n(n-1).
 pub const UNITS: usize = 12;
 
-// Zeros with the operands placed, and the plan's words on them.
+// The operands placed, over whatever the work slice held, and the plan's words on them: no other register is read before it is written.
 pub(crate) fn finish(x: &[u64], y: &[u64], tape: &[u64], work: &mut [u64])
-    requires { ⌜ Accepted (length (now x)) floorPlan × (length (now y) ≤ 8) × (length (now work) ≡ 512) × (foretoldTape (length (now x)) floorPlan ≤ length (now tape)) ⌝ }
-    ensures { λ _. ⌜ now (work .exit) ≡ finished floorPlan (length (now (x .entry))) (now (x .entry)) (now (y .entry)) (now (tape .entry)) ⌝ }
+    requires { ⌜ Accepted (length (now x)) floorPlan × (length (now y) ≡ length (now x)) × (length (now work) ≡ 512) × (foretoldTape (length (now x)) floorPlan ≤ length (now tape)) ⌝ }
+    ensures { λ _. ⌜ sharesOf (length (now (x .entry))) 2 (now (work .exit)) ≡ resultShares floorPlan (length (now (x .entry))) (now (x .entry)) (now (y .entry)) (now (tape .entry)) ⌝ }
 {
-    begin(x, y, work);
+    place(x, y, work);
     done(x.len(), tape, 0, work);
 }
 

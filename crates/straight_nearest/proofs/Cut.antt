@@ -1,12 +1,15 @@
 -- Written by tools/compile_plan.py: change the plan or the compiler, not this file.
 -- Nearest's plan is its runs and the words between them, by computation.
 use mathlib.Core.Path.{_≡_, refl}
+use mathlib.Core.List.{[], _∷_}
 use Prim.Native.Nat.{_-_, _*_}
 use native.Mathlib.Omega.{arith}
+use lib.Dec.{T}
 use Rattle.word.specs.Encoding.{named, put}
 use Rattle.word.specs.Encoding as encoding
 use Rattle.word.specs.Layout.{tapeOf}
 use Rattle.masking.specs.Foretold.{foretoldTape}
+use Rattle.masking.specs.Reads.{knownAfter, memberOf, readsOnly}
 use Rattle.masking.proofs.emitted.Counts.{by-count}
 use Rattle.execution.specs.Inner.{GoodPlan, TakesTape}
 use Rattle.plans.specs.NearestPlan.{nearestPlan}
@@ -24,3 +27,12 @@ good = record { short = omega arith; good = refl }
 pub takes : TakesTape 14 nearestPlan
 unfolding nearestPlan put tapeOf
 takes = record { most = omega arith; tape = by-count (λ n. foretoldTape n nearestPlan ≡ 14 * (n * (n - 1))) refl refl refl refl refl refl refl }
+
+-- it reads no register but the operands' before it is written, and writes register 2
+pub reads : T (readsOnly nearestPlan (0 ∷ 1 ∷ []))
+unfolding nearestPlan put named encoding.row
+reads = tt
+
+pub writes : T (memberOf (knownAfter nearestPlan (0 ∷ 1 ∷ [])) 2)
+unfolding nearestPlan put named encoding.row
+writes = tt

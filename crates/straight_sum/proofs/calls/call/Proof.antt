@@ -29,7 +29,7 @@ returns c =
     let t = f .before .before in
     let a = t .before .before in
     let g = a .before .before .before .before .before .before .args in
-    acted sumPlan (now (g .x)) (now (g .y)) (now (g .result)) (now (g .work)) (now (g .tape)) _ takes (a .operation-answer .result) (a .operation-answer .ensures) (t .if1 .taken) (f .finish .kept .1 .1 .1 .0) (f .finish .ensures) (c .before .before .before .before .end .ensures)
+    acted sumPlan (now (g .x)) (now (g .y)) (now (g .result)) (now (g .work)) (now (g .tape)) _ takes (a .operation-answer .result) (a .operation-answer .ensures) (t .if1 .taken) (f .finish .last .1 .1 .1 .0) (f .finish .kept .1 .1 .1 .0) (f .finish .ensures) (c .before .before .before .before .end .ensures)
 
 returns-2 : tie.Need-returns-2
 returns-2 c =

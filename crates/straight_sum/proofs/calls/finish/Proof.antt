@@ -1,10 +1,13 @@
 -- Written by tools/compile_plan.py: change the plan or the compiler, not this file.
 -- `straight_sum::calls::finish` meets its contract.
+use mathlib.Core.Path.{refl}
 use denote.Ref.{now}
 use lib.ListN.{length}
 use borrow.Author.Needs.{needs}
 use Rattle.plans.specs.SumPlan.{sumPlan}
-use Rattle.execution.proofs.Plans.{enough-tape, finished-by}
+use Rattle.execution.proofs.Plans.{enough-tape}
+use Rattle.execution.proofs.Known.{result-by}
+use Rattle.straight_sum.proofs.Cut.{reads, writes}
 use Rattle.straight_sum.proofs.calls.finish.Statement.{statement}
 use Rattle.straight_sum.proofs.calls.finish.Tie as tie
 
@@ -20,7 +23,7 @@ returns c =
     let b = p .before .before .before .before in
     let s = b .before .before .before .before .before .before in
     let x = now (s .args .x) in
-    finished-by (length x) sumPlan x (now (s .args .y)) (now (s .args .tape)) (s .pre .0) (s .pre .3) (b .begin .ensures) (p .done .ensures)
+    result-by (length x) (s .pre .0 .most) x (now (s .args .y)) refl (s .pre .1) sumPlan (now (s .args .tape)) (s .pre .0) (s .pre .3) reads writes (now (s .args .work)) (s .pre .2) (b .place .ensures) (p .done .ensures)
 
 pub finish-spec : {M : Type 1} → statement M
 finish-spec = tie.close (tie.spec (λ c κs. search needs) done-requires (λ c. search needs) returns)
