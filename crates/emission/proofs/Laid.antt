@@ -1,54 +1,141 @@
--- Steps on registers in the parts in which they are written: AND's five and the wiping, and ADD's 33 one by one. Rests on masking's Good,
--- Rising and Wiping.
-use mathlib.Core.Path.{_≡_, refl, sym, ap, subst, _∙_}
+-- Steps on registers in the parts in which they are written: AND's five and the wiping, XOR and SHL share by share, and ADD's 33 one by one;
+-- each part's words by where its cells lie. Rests on Rows and on masking's Places, Rising and Wiping.
+use mathlib.Core.Path.{_≡_, refl, sym, ap, ap₂, subst, fun-ext, _∙_}
+use mathlib.Core.Logic.{⊎-elim}
 use mathlib.Core.List.{List, [], _∷_, _++_, map}
-use Prim.Native.Nat.{ℕ, zero, suc, _+_, _<_}
+use Prim.Native.Nat.{ℕ, zero, suc, _+_, _*_, _≤_, _<_}
 use native.Mathlib.Nat.{zero-add}
 use native.Mathlib.Numerals.{add-one}
 use native.Mathlib.Omega.{arith}
-use lib.Dec.{T}
-use lib.ListN.{length, getD, drop}
+use lib.ListN.{length, getD, drop, length-map}
 use lib.Seq.{drop-cons}
+use borrow.Author.Tests.{lt-ltb, le-ltb}
 use Rattle.word.specs.declared.step.Step.{Step}
-use Rattle.word.specs.declared.step.Step.the-variants.{Const, Add, Rand}
-use Rattle.word.specs.Encoding.{within}
-use Rattle.word.proofs.Ranges.{within-cells}
-use Rattle.masking.specs.Translation.{scratch, shares, pairs, upFrom, cellsOf, scratchCells, wiping, andSteps, andBlock, block, blocks, adding}
-use Rattle.masking.proofs.emitted.Tests.{All}
+use Rattle.word.specs.declared.step.Step.the-variants.{Const, Xor, And, Shl, Rand}
+use Rattle.word.specs.Encoding.{put, wordOf}
+use Rattle.word.specs.Layout.{cellY, cellZ}
+use Rattle.masking.specs.Translation.{scratch, shares, pairs, upFrom, shareCell, cellsOf, scratchCells, wiping, andSteps, andBlock, block, blocks, adding}
+use Rattle.masking.proofs.emitted.Places.{share-cases}
+use Rattle.masking.proofs.emitted.Rising.{length-from}
 use Rattle.masking.proofs.emitted.Wiping.{wiping-shares}
-use Rattle.masking.proofs.emitted.Good.{adding-within}
-use Rattle.emission.specs.declared.emit.Once.the-variants.{CopyIn, Diagonal, CopyOut, Wipe}
+use Rattle.emission.specs.declared.emit.Cells.{Cells}
 use Rattle.emission.specs.declared.pairs.EachPair.the-variants.{Refresh, Products}
-use Rattle.emission.specs.Written.{Registers, partStep, pairSteps, adderStep}
+use Rattle.emission.proofs.Parts.{as-steps}
+use Rattle.emission.specs.Written.{Words, Emits, Room, Fits, cellsOn, cellsFor, eachFrom, eachWord, pairSteps, adderStep}
 
-pub and-parts : (n d a b : ℕ) → andSteps scratch n (cellsOf d) (cellsOf a) (cellsOf b) ≡
-    map (partStep (CopyIn b)) (shares n)
+-- ---- AND
+
+-- what share i gets: "copy b's shares to y", "z_i .. = a_i AND y_i", "copy z to d", CONST 0 into cells in a row
+abbrev pub copyIn : Cells → ℕ → Step
+copyIn b i = Shl (cellY i) (cellsOn b i) 0
+
+abbrev pub diagonal : Cells → ℕ → Step
+diagonal a i = And (cellZ i) (cellsOn a i) (cellY i)
+
+abbrev pub copyOut : Cells → ℕ → Step
+copyOut d i = Shl (cellsOn d i) (cellZ i) 0
+
+abbrev pub wipe : ℕ → ℕ → Step
+wipe c i = Const (c + i) 0
+
+pub and-parts : (n : ℕ) (d a b : Cells) → andSteps scratch n (cellsOn d) (cellsOn a) (cellsOn b) ≡
+    map (copyIn b) (shares n)
     ++ (pairSteps Refresh (pairs (shares n))
-    ++ (map (partStep (Diagonal a)) (shares n)
+    ++ (map (diagonal a) (shares n)
     ++ (pairSteps (Products a) (pairs (shares n))
-    ++ map (partStep (CopyOut d)) (shares n))))
+    ++ map (copyOut d) (shares n))))
 unfolding andSteps
 and-parts n d a b = refl
 
-pub and-wiped : (n d a b : ℕ) → andBlock scratch n (cellsOf d) (cellsOf a) (cellsOf b)
-    ≡ andSteps scratch n (cellsOf d) (cellsOf a) (cellsOf b) ++ wiping (scratchCells scratch n)
+pub and-wiped : (n : ℕ) (d a b : Cells) → andBlock scratch n (cellsOn d) (cellsOn a) (cellsOn b)
+    ≡ andSteps scratch n (cellsOn d) (cellsOn a) (cellsOn b) ++ wiping (scratchCells scratch n)
 unfolding andBlock
 and-wiped n d a b = refl
 
 pub wiping-parts : (n : ℕ) → wiping (scratchCells scratch n)
-    ≡ map (partStep (Wipe 256)) (shares n) ++ (map (partStep (Wipe 264)) (shares n) ++ ((Const 272 0 ∷ []) ++ (Const 273 0 ∷ [])))
+    ≡ map (wipe 256) (shares n) ++ (map (wipe 264) (shares n) ++ ((Const 272 0 ∷ []) ++ (Const 273 0 ∷ [])))
 wiping-parts n = wiping-shares scratch n
+
+-- ---- words by where the cells lie
+
+-- cells in a row from c on, and a field that is no cell
+abbrev pub inRow : ℕ → Cells
+inRow c = record { first = c; over = 1 }
+
+abbrev pub fixed : ℕ → Cells
+fixed k = record { first = k; over = 0 }
+
+pub row-fits : (c : ℕ) → c < 505 → Fits (inRow c)
+row-fits c l = record { field = omega arith }
+
+pub fixed-fits : (k : ℕ) → k < 512 → Fits (fixed k)
+fixed-fits k l = record { field = omega arith }
+
+pub words-each : (g : ℕ → Step) (h : ℕ → ℕ) → ((i : ℕ) → wordOf (g i) ≡ h i) → (s c : ℕ) → map wordOf (map g (upFrom s c)) ≡ map h (upFrom s c)
+words-each g h e s zero = refl
+words-each g h e s (suc c) = rw (e s) (ap (λ (r : List ℕ). h s ∷ r) (words-each g h e (suc s) c))
+
+in-row : (c i : ℕ) → c + i ≡ cellsOn (inRow c) i
+in-row c i = omega arith
+
+pub stays : (k i : ℕ) → k ≡ cellsOn (fixed k) i
+stays k i = omega arith
+
+module _ {out : List ℕ} {at : ℕ} {after : List ℕ} {next : ℕ} where
+  pub copied-in : (b : Cells) (n : ℕ) → Words out at (eachWord 5 (inRow 256) b (fixed 0) n) after next → Emits out at (map (copyIn b) (shares n)) after next
+  copied-in b n = as-steps _ (words-each (copyIn b) _ (λ i. ap₂ (λ (x y : ℕ). put 5 x (cellsOn b i) y) (in-row 256 i) (stays 0 i)) 0 n)
+
+  pub multiplied : (a : Cells) (n : ℕ) → Words out at (eachWord 3 (inRow 264) a (inRow 256) n) after next → Emits out at (map (diagonal a) (shares n)) after next
+  multiplied a n = as-steps _ (words-each (diagonal a) _ (λ i. ap₂ (λ (x y : ℕ). put 3 x (cellsOn a i) y) (in-row 264 i) (in-row 256 i)) 0 n)
+
+  pub copied-out : (d : Cells) (n : ℕ) → Words out at (eachWord 5 d (inRow 264) (fixed 0) n) after next → Emits out at (map (copyOut d) (shares n)) after next
+  copied-out d n = as-steps _ (words-each (copyOut d) _ (λ i. ap₂ (λ (x y : ℕ). put 5 (cellsOn d i) x y) (in-row 264 i) (stays 0 i)) 0 n)
+
+  pub wiped : (c n : ℕ) → Words out at (eachWord 1 (inRow c) (fixed 0) (fixed 0) n) after next → Emits out at (map (wipe c) (shares n)) after next
+  wiped c n = as-steps _ (words-each (wipe c) _ (λ i. ap₂ (λ (x y : ℕ). put 1 x y y) (in-row c i) (stays 0 i)) 0 n)
+
+-- ---- steps on registers
+
+pub cell-on : (r i : ℕ) → shareCell i r ≡ cellsOn (cellsFor r) i
+cell-on r i =
+    ⊎-elim (λ (p : (r < 32) × (shareCell i r ≡ 32 * i + r)). rw (lt-ltb r 32 (p .0)) (omega arith))
+    (λ (p : (32 ≤ r) × (shareCell i r ≡ 256 + 8 * i + r)). rw (le-ltb r 32 (p .0)) (omega arith)) (share-cases i r)
+
+pub for-fits : (r : ℕ) → r < 40 → Fits (cellsFor r)
+for-fits r l =
+    ⊎-elim (λ (p : (r < 32) × (shareCell 0 r ≡ 32 * 0 + r)). rw (lt-ltb r 32 (p .0)) (record { field = omega arith }))
+    (λ (p : (32 ≤ r) × (shareCell 0 r ≡ 256 + 8 * 0 + r)). rw (le-ltb r 32 (p .0)) (record { field = omega arith })) (share-cases 0 r)
+
+module _ {out : List ℕ} {at : ℕ} {after : List ℕ} {next : ℕ} where
+  pub as-xor : (d a b n : ℕ) → Words out at (eachWord 2 (cellsFor d) (cellsFor a) (cellsFor b) n) after next → Emits out at (block scratch n (Xor d a b)) after next
+  as-xor d a b n = as-steps _ (words-each _ _ (λ i. rw (cell-on d i, cell-on a i, cell-on b i)) 0 n)
+
+  pub as-shl : (d a k n : ℕ) → Words out at (eachWord 5 (cellsFor d) (cellsFor a) (fixed k) n) after next → Emits out at (block scratch n (Shl d a k)) after next
+  as-shl d a k n = as-steps _ (words-each _ _ (λ i. rw (cell-on d i, cell-on a i) (ap (put 5 (cellsOn (cellsFor d) i) (cellsOn (cellsFor a) i)) (stays k i))) 0 n)
+
+and-on : (d a b n : ℕ) → block scratch n (And d a b) ≡ andBlock scratch n (cellsOn (cellsFor d)) (cellsOn (cellsFor a)) (cellsOn (cellsFor b))
+and-on d a b n = rw (on d, on a, on b)
+  where
+    on : (r : ℕ) → cellsOf r ≡ cellsOn (cellsFor r)
+    on r = fun-ext (cell-on r)
+
+module _ {out : List ℕ} {at : ℕ} where
+  pub as-and : (d a b n : ℕ) {after : List ℕ} {next : ℕ} → Emits out at (andBlock scratch n (cellsOn (cellsFor d)) (cellsOn (cellsFor a)) (cellsOn (cellsFor b))) after next
+      → Emits out at (block scratch n (And d a b)) after next
+  as-and d a b n {after} {next} e = subst (λ (ss : List Step). Emits out at ss after next) (sym (and-on d a b n)) e
+
+  pub room-and : (d a b n : ℕ) → Room out at (block scratch n (And d a b)) → Room out at (andBlock scratch n (cellsOn (cellsFor d)) (cellsOn (cellsFor a)) (cellsOn (cellsFor b)))
+  room-and d a b n r = subst (λ (ss : List Step). Room out at ss) (and-on d a b n) r
+
+-- room for a step of each share
+pub room-each : (f : ℕ → Step) (n : ℕ) {out : List ℕ} {at : ℕ} → Room out at (map f (shares n)) → at + n ≤ length out
+room-each f n r = omega (arith, r .fits, length-map (shares n) f, length-from 0 n)
 
 -- ---- ADD's steps by their numbers
 at-number : (f : ℕ → Step) (s c k : ℕ) → k < c → getD (map f (upFrom s c)) k (Rand 0) ≡ f (s + k)
 at-number f s zero k h = absurd (omega arith)
 at-number f s (suc c) zero h = ap f (omega arith)
 at-number f s (suc c) (suc k) h = at-number f (suc s) c k (omega arith) ∙ ap f (omega arith)
-
-all-at : (P : Step → Type 0) (ss : List Step) → All P ss → (k : ℕ) → k < length ss → P (getD ss k (Rand 0))
-all-at P [] h k l = absurd (omega arith)
-all-at P (s ∷ ss) h zero l = h .0
-all-at P (s ∷ ss) h (suc k) l = all-at P ss (h .1) k (omega arith)
 
 module _ (d a b : ℕ) where
   numbered : adding d a b ≡ map (adderStep d a b) (upFrom 0 33)
@@ -59,15 +146,8 @@ module _ (d a b : ℕ) where
   unfolding adding
   adding-length = refl
 
-  pub adder-step : (k : ℕ) → k < 33 → getD (adding d a b) k (Rand 0) ≡ adderStep d a b k
+  adder-step : (k : ℕ) → k < 33 → getD (adding d a b) k (Rand 0) ≡ adderStep d a b k
   adder-step k h = ap (λ (ss : List Step). getD ss k (Rand 0)) numbered ∙ at-number (adderStep d a b) 0 33 k h ∙ ap (adderStep d a b) (zero-add k)
-
-  -- each is on registers and helpers
-  pub adder-registers : Registers (Add d a b) → (k : ℕ) → k < 33 → Registers (adderStep d a b k)
-  adder-registers r k h =
-      let A = adding-within 40 (omega arith) d a b (r .0) (r .1 .0) (r .1 .1 .0) in
-      subst (λ (s : Step). Registers s) (adder-step k h)
-      (within-cells 40 (getD (adding d a b) k (Rand 0)) (all-at (λ s. T (within 40 s)) (adding d a b) A k (omega (arith, adding-length))))
 
   -- the next one, and those after it
   pub adder-next : (n k : ℕ) → k < 33 → blocks scratch n (drop k (adding d a b)) ≡ block scratch n (adderStep d a b k) ++ blocks scratch n (drop (k + 1) (adding d a b))

@@ -1,23 +1,26 @@
 -- Names for what the parts of Translate write, by masking's definitions, cited by inner functions only: nothing here has to be believed.
 use mathlib.Core.Path.{_≡_}
 use mathlib.Core.Bool.{cond}
-use mathlib.Core.List.{List, _∷_, map}
-use Prim.Native.Nat.{ℕ, _+_, _-_, _/_, _%_, _^_, _≤_, _<_}
-use lib.Dec.{eqb}
+use mathlib.Core.List.{List, [], _∷_, map}
+use Prim.Native.Nat.{ℕ, zero, suc, _+_, _-_, _*_, _/_, _%_, _^_, _≤_, _<_}
+use lib.Dec.{eqb, ltb}
 use lib.ListN.{length}
 use lib.Seq.{sets}
 use Rattle.word.specs.declared.step.Step.{Step}
-use Rattle.word.specs.declared.step.Step.the-variants.{Const, Xor, And, Shl}
-use Rattle.word.specs.Encoding.{wordOf}
-use Rattle.word.specs.Table.{dest, reads, Each}
-use Rattle.word.specs.Layout.{cellY, cellZ}
-use Rattle.masking.specs.Translation.{Pair, refresh, products, scratch, shareCell, cellsOf, shareStep, rH, rG, rP, rT}
-use Rattle.emission.specs.declared.emit.Once.{Once}
-use Rattle.emission.specs.declared.emit.Once.the-variants.{Own, CopyIn, Diagonal, CopyOut, Wipe}
+use Rattle.word.specs.declared.step.Step.the-variants.{Xor, And, Shl}
+use Rattle.word.specs.declared.step.Decoded.the-variants.{Good}
+use Rattle.word.specs.Encoding.{put, planStep, wordOf}
+use Rattle.masking.specs.Translation.{upFrom, Pair, refresh, products, scratch, rH, rG, rP, rT}
+use Rattle.emission.specs.declared.emit.Cells.{Cells}
 use Rattle.emission.specs.declared.pairs.EachPair.{EachPair}
 use Rattle.emission.specs.declared.pairs.EachPair.the-variants.{Refresh, Products}
 
--- the words of steps stand in `out` from place `at` on, and the next place is behind them
+-- words stand in `out` from place `at` on, and the next place is behind them
+pub record Words (out : List ℕ) (at : ℕ) (ws : List ℕ) (after : List ℕ) (next : ℕ) : Type 0 where
+  pub written : after ≡ sets out at ws
+  pub ends : next ≡ at + length ws
+
+-- the words of steps do
 pub record Emits (out : List ℕ) (at : ℕ) (ss : List Step) (after : List ℕ) (next : ℕ) : Type 0 where
   pub written : after ≡ sets out at (map wordOf ss)
   pub ends : next ≡ at + length ss
@@ -26,35 +29,56 @@ pub record Emits (out : List ℕ) (at : ℕ) (ss : List Step) (after : List ℕ)
 pub record Room (out : List ℕ) (at : ℕ) (ss : List Step) : Type 0 where
   pub fits : at + length ss ≤ length out
 
--- what share i gets: of a step on registers, or of AND's parts ("copy b's shares to y", "z_i .. = a_i AND y_i", "copy z to d", and
--- "CONST 0 into y_0.., z_0..", cells in a row)
-abbrev pub partStep : Once → ℕ → Step
-partStep (Own s) i = shareStep s i
-partStep (CopyIn b) i = Shl (cellY i) (shareCell i b) 0
-partStep (Diagonal a) i = And (cellZ i) (shareCell i a) (cellY i)
-partStep (CopyOut d) i = Shl (shareCell i d) (cellZ i) 0
-partStep (Wipe c) i = Const (c + i) 0
+-- words in a row, each the last one and `over`
+abbrev pub rowOf : ℕ → ℕ → ℕ → List ℕ
+rowOf first over zero = []
+rowOf first over (suc c) = first ∷ rowOf (first + over) over c
 
--- the registers that a step names: the plan's 32, and the helpers from 32 on (below 40 is all that the cells' places need)
-abbrev pub Registers : Step → Type 0
-Registers s = Each (λ r. r < 40) (dest s ∷ reads s)
+-- they are 32-bit words, and so is what would come next: kinds below 8, and at most 73 cells from share to share
+pub record Rises (first over n : ℕ) : Type 0 where
+  pub kind : first < 2 ^ 31
+  pub small : over < 2 ^ 25
+  pub most : n ≤ 8
 
--- Wipe names its first cell
-abbrev pub OnceRegisters : Once → Type 0
-OnceRegisters (Own s) = Registers s
-OnceRegisters (CopyIn b) = b < 40
-OnceRegisters (Diagonal a) = a < 40
-OnceRegisters (CopyOut d) = d < 40
-OnceRegisters (Wipe c) = c < 512
+-- share i's cell
+abbrev pub cellsOn : Cells → ℕ → ℕ
+cellsOn c i = c .first + c .over * i
+
+-- a field has room for those of eight shares
+pub record Fits (c : Cells) : Type 0 where
+  pub field : c .first + c .over * 7 < 512
+
+pub record EachFits (k : ℕ) (d a b : Cells) (n : ℕ) : Type 0 where
+  pub kind : k < 8
+  pub fitsD : Fits d
+  pub fitsA : Fits a
+  pub fitsB : Fits b
+  pub most : n ≤ 8
+
+-- a word of kind k for each of so many shares from one on, and for each share
+abbrev pub eachFrom : ℕ → Cells → Cells → Cells → ℕ → ℕ → List ℕ
+eachFrom k d a b s c = map (λ i. put k (cellsOn d i) (cellsOn a i) (cellsOn b i)) (upFrom s c)
+
+abbrev pub eachWord : ℕ → Cells → Cells → Cells → ℕ → List ℕ
+eachWord k d a b n = eachFrom k d a b 0 n
+
+-- where the shares of a register lie, helpers included
+abbrev pub cellsFor : ℕ → Cells
+cellsFor r = record { first = cond (ltb r 32) r (r + 256); over = cond (ltb r 32) 32 8 }
 
 -- what pairs get
 abbrev pub pairSteps : EachPair → List Pair → List Step
 pairSteps Refresh ps = refresh scratch ps
-pairSteps (Products a) ps = products scratch (cellsOf a) ps
+pairSteps (Products a) ps = products scratch (cellsOn a) ps
 
-abbrev pub EachPairRegisters : EachPair → Type 0
-EachPairRegisters Refresh = Unit {0}
-EachPairRegisters (Products a) = a < 40
+abbrev pub PairFits : EachPair → Type 0
+PairFits Refresh = Unit {0}
+PairFits (Products a) = Fits a
+
+-- a good word of a plan, and its step
+pub record PlanWord (w : ℕ) : Type 0 where
+  pub step : Step
+  pub apart : planStep w ≡ Good step
 
 -- ADD's steps by their numbers: step j of the round of shift 2^r, and step k of all 33
 abbrev pub roundStep : ℕ → ℕ → Step

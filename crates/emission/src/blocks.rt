@@ -1,148 +1,154 @@
-// The share steps of a step on registers, and ADD laid out in such steps.
-ghost use Prim.Native.Nat.{_<_};
-ghost use Rattle.masking.specs.Translation as translation;
-ghost use Rattle.masking.specs.Translation.{andBlock, andSteps, cellsOf, scratch, scratchCells};
+// The share words of AND, and of ADD, which is laid out in XOR, AND and SHL on registers.
 ghost use mathlib.Core.Path.{_≡_};
+ghost use Prim.Native.Nat.{_≤_, _<_};
+ghost use Rattle.masking.specs.Translation as translation;
+ghost use Rattle.masking.specs.Translation.{andBlock, andSteps, block, scratch, scratchCells};
 ghost use Rattle.emission.specs.Written as emission;
-ghost use Rattle.emission.specs.Written.{Emits, Registers, Room};
-use crate::emit::HELPERS;
-use crate::emit::Once;
+ghost use Rattle.emission.specs.Written.{Emits, Fits, Room, cellsFor, cellsOn};
+use crate::emit::Cells;
 use crate::emit::each_share;
-use crate::emit::put;
+use crate::emit::put_word;
 use crate::pairs::EachPair;
 use crate::pairs::all_pairs;
-use word::step::Step;
 use word::step_word::StepWord;
 
-// The helper registers of ADD.
-const H: u16 = HELPERS;
+// The cells of ADD's helper registers, and of AND's scratch.
+const H: Cells = Cells {
+    first: StepWord::HELPERS,
+    over: 8,
+};
 
-const G: u16 = HELPERS + 1;
+const G: Cells = Cells {
+    first: StepWord::HELPERS + 1,
+    over: 8,
+};
 
-const P: u16 = HELPERS + 2;
+const P: Cells = Cells {
+    first: StepWord::HELPERS + 2,
+    over: 8,
+};
 
-const T: u16 = HELPERS + 3;
+const T: Cells = Cells {
+    first: StepWord::HELPERS + 3,
+    over: 8,
+};
+
+const Y: Cells = Cells {
+    first: StepWord::Y,
+    over: 1,
+};
+
+const Z: Cells = Cells {
+    first: StepWord::Z,
+    over: 1,
+};
+
+// A field that is 0 in each share.
+const ZERO: Cells = Cells { first: 0, over: 0 };
+
+// The last shift of ADD.
+const ONE: Cells = Cells { first: 1, over: 0 };
+
+// CONST 0 into t, and into u.
+const WIPE_T: u32 = StepWord::CONST * StepWord::KIND_UNIT
+    + (StepWord::T as u32) * StepWord::NUMBERS;
+
+const WIPE_U: u32 = StepWord::CONST * StepWord::KIND_UNIT
+    + (StepWord::U as u32) * StepWord::NUMBERS;
 
 // AND's steps, before its scratch cells are wiped.
-fn and_steps(d: u16, a: u16, b: u16, n: u8, at: usize, out: &mut [u32]) -> usize
-    requires { ⌜ Registers (Step.And d a b) ⌝ }
-    requires { ⌜ Room (now out) at (andSteps scratch n (cellsOf d) (cellsOf a) (cellsOf b)) ⌝ }
-    ensures { λ r. ⌜ Emits (now (out .entry)) at (andSteps scratch n (cellsOf d) (cellsOf a) (cellsOf b)) (now (out .exit)) r ⌝ }
+fn and_steps(d: Cells, a: Cells, b: Cells, n: u8, at: usize, out: &mut [u32]) -> usize
+    requires { ⌜ (Fits d) × (Fits a) × (Fits b) ⌝ }
+    requires { ⌜ n ≤ 8 ⌝ }
+    requires { ⌜ Room (now out) at (andSteps scratch n (cellsOn d) (cellsOn a) (cellsOn b)) ⌝ }
+    ensures { λ r. ⌜ Emits (now (out .entry)) at (andSteps scratch n (cellsOn d) (cellsOn a) (cellsOn b)) (now (out .exit)) r ⌝ }
 {
-    let at = each_share(Once::CopyIn(b), n, at, out);
+    let at = each_share(StepWord::SHL, Y, b, ZERO, n, at, out);
     let at = all_pairs(EachPair::Refresh, n, at, out);
-    let at = each_share(Once::Diagonal(a), n, at, out);
+    let at = each_share(StepWord::AND, Z, a, Y, n, at, out);
     let at = all_pairs(EachPair::Products(a), n, at, out);
-    each_share(Once::CopyOut(d), n, at, out)
+    each_share(StepWord::SHL, d, Z, ZERO, n, at, out)
 }
 
 // CONST 0 into AND's scratch cells: y and z of each share, t and u.
 fn wiping(n: u8, at: usize, out: &mut [u32]) -> usize
+    requires { ⌜ n ≤ 8 ⌝ }
     requires { ⌜ Room (now out) at (translation.wiping (scratchCells scratch n)) ⌝ }
     ensures { λ r. ⌜ Emits (now (out .entry)) at (translation.wiping (scratchCells scratch n)) (now (out .exit)) r ⌝ }
 {
-    let at = each_share(Once::Wipe(StepWord::Y), n, at, out);
-    let at = each_share(Once::Wipe(StepWord::Z), n, at, out);
-    let at = put(
-        Step::Const {
-            d: StepWord::T,
-            k: 0,
-        },
-        at,
-        out,
-    );
-    put(
-        Step::Const {
-            d: StepWord::U,
-            k: 0,
-        },
-        at,
-        out,
-    )
+    let at = each_share(StepWord::CONST, Y, ZERO, ZERO, n, at, out);
+    let at = each_share(StepWord::CONST, Z, ZERO, ZERO, n, at, out);
+    let at = put_word(WIPE_T, at, out);
+    put_word(WIPE_U, at, out)
 }
 
-fn and_block(d: u16, a: u16, b: u16, n: u8, at: usize, out: &mut [u32]) -> usize
-    requires { ⌜ Registers (Step.And d a b) ⌝ }
-    requires { ⌜ Room (now out) at (andBlock scratch n (cellsOf d) (cellsOf a) (cellsOf b)) ⌝ }
-    ensures { λ r. ⌜ Emits (now (out .entry)) at (andBlock scratch n (cellsOf d) (cellsOf a) (cellsOf b)) (now (out .exit)) r ⌝ }
+// AND's share words; d may be a or b, for it is written last.
+pub fn and_block(d: Cells, a: Cells, b: Cells, n: u8, at: usize, out: &mut [u32]) -> usize
+    requires { ⌜ (Fits d) × (Fits a) × (Fits b) ⌝ }
+    requires { ⌜ n ≤ 8 ⌝ }
+    requires { ⌜ Room (now out) at (andBlock scratch n (cellsOn d) (cellsOn a) (cellsOn b)) ⌝ }
+    ensures { λ r. ⌜ Emits (now (out .entry)) at (andBlock scratch n (cellsOn d) (cellsOn a) (cellsOn b)) (now (out .exit)) r ⌝ }
 {
     let at = and_steps(d, a, b, n, at, out);
     wiping(n, at, out)
 }
 
-// The share steps of a step on registers; ADD is laid out by `adding` first.
-fn block(s: Step, n: u8, at: usize, out: &mut [u32]) -> usize
-    requires { ⌜ Registers s ⌝ }
-    requires { ⌜ Room (now out) at (translation.block scratch n s) ⌝ }
-    ensures { λ r. ⌜ Emits (now (out .entry)) at (translation.block scratch n s) (now (out .exit)) r ⌝ }
+// The cells of a plan's register.
+pub fn register(r: u16) -> Cells
+    requires { ⌜ r < 32 ⌝ }
+    ensures { λ c. ⌜ c ≡ cellsFor r ⌝ }
 {
-    match s {
-        Step::And { d, a, b } => and_block(d, a, b, n, at, out),
-        Step::Add { d: _, a: _, b: _ } => at,
-        Step::Rand { d: _ } => at,
-        _ => each_share(Once::Own(s), n, at, out),
-    }
+    Cells { first: r, over: 32 }
 }
 
 // Step j of ADD's round r, whose shift is 2^r: T = G SHL 2^r; T = P AND T; G = G XOR T; T = P SHL 2^r; P = P AND T.
-fn round_step(r: u16, j: u16) -> Step
+fn round_step(r: u16, j: u16, n: u8, at: usize, out: &mut [u32]) -> usize
     requires { ⌜ r < 6 ⌝ }
-    ensures { λ s. ⌜ s ≡ emission.roundStep r j ⌝ }
+    requires { ⌜ n ≤ 8 ⌝ }
+    requires { ⌜ Room (now out) at (block scratch n (emission.roundStep r j)) ⌝ }
+    ensures { λ s. ⌜ Emits (now (out .entry)) at (block scratch n (emission.roundStep r j)) (now (out .exit)) s ⌝ }
 {
-    let shift = 1 << r;
+    let shift = Cells {
+        first: 1 << r,
+        over: 0,
+    };
     match j {
-        0 => Step::Shl {
-            d: T,
-            a: G,
-            b: shift,
-        },
-        1 => Step::And { d: T, a: P, b: T },
-        2 => Step::Xor { d: G, a: G, b: T },
-        3 => Step::Shl {
-            d: T,
-            a: P,
-            b: shift,
-        },
-        _ => Step::And { d: P, a: P, b: T },
+        0 => each_share(StepWord::SHL, T, G, shift, n, at, out),
+        1 => and_block(T, P, T, n, at, out),
+        2 => each_share(StepWord::XOR, G, G, T, n, at, out),
+        3 => each_share(StepWord::SHL, T, P, shift, n, at, out),
+        _ => and_block(P, P, T, n, at, out),
     }
 }
 
 // Step k of the 33 that ADD is laid out in, by the Kogge-Stone adder: three first, five for each round, the last round's three, two last.
-fn adder_step(d: u16, a: u16, b: u16, k: u16) -> Step
+fn adder_step(d: u16, a: u16, b: u16, k: u16, n: u8, at: usize, out: &mut [u32]) -> usize
+    requires { ⌜ (d < 32) × (a < 32) × (b < 32) ⌝ }
     requires { ⌜ k < 33 ⌝ }
-    ensures { λ s. ⌜ s ≡ emission.adderStep d a b k ⌝ }
+    requires { ⌜ n ≤ 8 ⌝ }
+    requires { ⌜ Room (now out) at (block scratch n (emission.adderStep d a b k)) ⌝ }
+    ensures { λ r. ⌜ Emits (now (out .entry)) at (block scratch n (emission.adderStep d a b k)) (now (out .exit)) r ⌝ }
 {
     match k {
-        0 => Step::Xor { d: H, a, b },
-        1 => Step::And { d: G, a, b },
-        2 => Step::Shl { d: P, a: H, b: 0 },
-        31 => Step::Shl { d: T, a: G, b: 1 },
-        32 => Step::Xor { d, a: H, b: T },
-        _ => round_step((k - 3) / 5, (k - 3) % 5),
+        0 => each_share(StepWord::XOR, H, register(a), register(b), n, at, out),
+        1 => and_block(G, register(a), register(b), n, at, out),
+        2 => each_share(StepWord::SHL, P, H, ZERO, n, at, out),
+        31 => each_share(StepWord::SHL, T, G, ONE, n, at, out),
+        32 => each_share(StepWord::XOR, register(d), H, T, n, at, out),
+        _ => round_step((k - 3) / 5, (k - 3) % 5, n, at, out),
     }
 }
 
 // ADD's steps one after another.
-fn adding(d: u16, a: u16, b: u16, n: u8, at: usize, out: &mut [u32]) -> usize
-    requires { ⌜ Registers (Step.Add d a b) ⌝ }
+pub fn adding(d: u16, a: u16, b: u16, n: u8, at: usize, out: &mut [u32]) -> usize
+    requires { ⌜ (d < 32) × (a < 32) × (b < 32) ⌝ }
+    requires { ⌜ n ≤ 8 ⌝ }
     requires { ⌜ Room (now out) at (translation.blocks scratch n (translation.adding d a b)) ⌝ }
     ensures { λ r. ⌜ Emits (now (out .entry)) at (translation.blocks scratch n (translation.adding d a b)) (now (out .exit)) r ⌝ }
 {
     let mut at = at;
     for k in 0..33 {
-        at = block(adder_step(d, a, b, k), n, at, out);
+        at = adder_step(d, a, b, k, n, at, out);
     }
     at
-}
-
-// The share steps of a plan's step.
-pub fn laid_out(s: Step, n: u8, at: usize, out: &mut [u32]) -> usize
-    requires { ⌜ Registers s ⌝ }
-    requires { ⌜ Room (now out) at (translation.blocks scratch n (translation.laidOut s)) ⌝ }
-    ensures { λ r. ⌜ Emits (now (out .entry)) at (translation.blocks scratch n (translation.laidOut s)) (now (out .exit)) r ⌝ }
-{
-    match s {
-        Step::Add { d, a, b } => adding(d, a, b, n, at, out),
-        _ => block(s, n, at, out),
-    }
 }

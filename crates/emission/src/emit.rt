@@ -1,129 +1,69 @@
-// What is written once per share.
+// What is written once per share, by templates: of the n words in a row each is the last one and the same number more.
 ghost use mathlib.Core.Path.{_≡_};
-ghost use mathlib.Core.List.{[], _∷_, map};
-ghost use Prim.Native.Nat.{_<_};
+ghost use mathlib.Core.List.{[], _∷_};
+ghost use Prim.Native.Nat.{_+_, _-_, _≤_, _<_};
 ghost use lib.ListN.{length};
-ghost use Rattle.masking.specs.Translation.{firstOther, shareCell, shareStep, shares};
-ghost use Rattle.emission.specs.Written.{Emits, OnceRegisters, Registers, Room, partStep};
-use word::step::Step;
-use word::step_word::StepWord;
+ghost use Rattle.emission.specs.Written.{EachFits, Fits, Rises, Words, cellsOn, eachWord, rowOf};
+use word::step_rule::put;
 
-// The share steps that come once per share: those of a step on registers, three parts of AND, and CONST 0 into cells in a row.
-pub enum Once {
-    Own(Step),
-    CopyIn(u16),
-    Diagonal(u16),
-    CopyOut(u16),
-    Wipe(u16),
+// Where the shares of a register, a helper or a scratch cell lie: share i's cell is first + over * i. A field that is no cell stays as it is.
+pub struct Cells {
+    pub first: u16,
+    pub over: u16,
 }
 
-// Writes a step's word; the answer is the next place.
-pub fn put(s: Step, at: usize, out: &mut [u32]) -> usize
+// Writes one word; the answer is the next place.
+pub fn put_word(w: u32, at: usize, out: &mut [u32]) -> usize
     requires { ⌜ at < length (now out) ⌝ }
-    ensures { λ r. ⌜ Emits (now (out .entry)) at (s ∷ []) (now (out .exit)) r ⌝ }
+    ensures { λ r. ⌜ Words (now (out .entry)) at (w ∷ []) (now (out .exit)) r ⌝ }
 {
-    out[at] = StepWord::of_step(s).bits;
+    out[at] = w;
     at + 1
 }
 
-// The first helper register: they come behind a plan's.
-pub const HELPERS: u16 = StepWord::REGISTERS as u16;
-
-// Share i of register r, helpers included.
-pub fn share_cell(i: u8, r: u16) -> u16
-    requires { ⌜ r < 40 ⌝ }
-    ensures { λ c. ⌜ c ≡ shareCell i r ⌝ }
-{
-    if r < HELPERS {
-        StepWord::cell(i, r as u8)
-    } else {
-        StepWord::helper(i, (r - HELPERS) as u8)
-    }
-}
-
-// A step for share 0, and one for the others.
-fn first_other(i: u8, first: Step, other: Step) -> Step
-    ensures { λ r. ⌜ r ≡ firstOther i first other ⌝ }
-{
-    if i == 0 { first } else { other }
-}
-
-// The step of share i for a step on registers. CONST and NOT do in share 0 alone what they are named for.
-fn share_step(s: Step, i: u8) -> Step
-    requires { ⌜ Registers s ⌝ }
-    ensures { λ r. ⌜ r ≡ shareStep s i ⌝ }
-{
-    match s {
-        Step::Const { d, k } => {
-            let d = share_cell(i, d);
-            first_other(i, Step::Const { d, k }, Step::Const { d, k: 0 })
-        }
-        Step::Not { d, a } => {
-            let d = share_cell(i, d);
-            let a = share_cell(i, a);
-            first_other(i, Step::Not { d, a }, Step::Shl { d, a, b: 0 })
-        }
-        Step::Xor { d, a, b } => Step::Xor {
-            d: share_cell(i, d),
-            a: share_cell(i, a),
-            b: share_cell(i, b),
-        },
-        Step::Shl { d, a, b } => Step::Shl {
-            d: share_cell(i, d),
-            a: share_cell(i, a),
-            b,
-        },
-        Step::Shr { d, a, b } => Step::Shr {
-            d: share_cell(i, d),
-            a: share_cell(i, a),
-            b,
-        },
-        Step::Spread { d, a } => Step::Spread {
-            d: share_cell(i, d),
-            a: share_cell(i, a),
-        },
-        _ => s,
-    }
-}
-
-// The step that share i gets.
-fn once_step(o: Once, i: u8) -> Step
-    requires { ⌜ OnceRegisters o ⌝ }
-    ensures { λ r. ⌜ r ≡ partStep o i ⌝ }
-{
-    match o {
-        Once::Own(s) => share_step(s, i),
-        Once::CopyIn(b) => Step::Shl {
-            d: StepWord::y(i),
-            a: share_cell(i, b),
-            b: 0,
-        },
-        Once::Diagonal(a) => Step::And {
-            d: StepWord::z(i),
-            a: share_cell(i, a),
-            b: StepWord::y(i),
-        },
-        Once::CopyOut(d) => Step::Shl {
-            d: share_cell(i, d),
-            a: StepWord::z(i),
-            b: 0,
-        },
-        Once::Wipe(c) => Step::Const {
-            d: c + (i as u16),
-            k: 0,
-        },
-    }
-}
-
-// Writes each share's step, shares rising from 0.
-pub fn each_share(o: Once, n: u8, at: usize, out: &mut [u32]) -> usize
-    requires { ⌜ OnceRegisters o ⌝ }
-    requires { ⌜ Room (now out) at (map (partStep o) (shares n)) ⌝ }
-    ensures { λ r. ⌜ Emits (now (out .entry)) at (map (partStep o) (shares n)) (now (out .exit)) r ⌝ }
+// Writes n words in a row.
+pub fn row(first: u32, over: u32, n: u8, at: usize, out: &mut [u32]) -> usize
+    requires { ⌜ Rises first over n ⌝ }
+    requires { ⌜ at + n ≤ length (now out) ⌝ }
+    ensures { λ r. ⌜ Words (now (out .entry)) at (rowOf first over n) (now (out .exit)) r ⌝ }
 {
     let mut at = at;
+    let mut w = first;
     for i in 0..n {
-        at = put(once_step(o, i), at, out);
+        at = put_word(w, at, out);
+        w += over;
     }
     at
+}
+
+// Writes share 0's word, and the others' in a row.
+pub fn alone(first: u32, other: u32, over: u32, n: u8, at: usize, out: &mut [u32]) -> usize
+    requires { ⌜ 1 ≤ n ⌝ }
+    requires { ⌜ Rises other over n ⌝ }
+    requires { ⌜ at + n ≤ length (now out) ⌝ }
+    ensures { λ r. ⌜ Words (now (out .entry)) at (first ∷ rowOf other over (n - 1)) (now (out .exit)) r ⌝ }
+{
+    let at = put_word(first, at, out);
+    row(other, over, n - 1, at, out)
+}
+
+// The cell of a share.
+pub fn cell_at(c: Cells, i: u8) -> u16
+    requires { ⌜ Fits c ⌝ }
+    requires { ⌜ i < 8 ⌝ }
+    ensures { λ r. ⌜ r ≡ cellsOn c i ⌝ }
+{
+    c.first + c.over * (i as u16)
+}
+
+// Writes a word of kind k for each share, shares rising from 0: from share to share it is the fields' steps more, put together as a word of
+// kind 0.
+pub fn each_share(k: u32, d: Cells, a: Cells, b: Cells, n: u8, at: usize, out: &mut [u32]) -> usize
+    requires { ⌜ EachFits k d a b n ⌝ }
+    requires { ⌜ at + n ≤ length (now out) ⌝ }
+    ensures { λ r. ⌜ Words (now (out .entry)) at (eachWord k d a b n) (now (out .exit)) r ⌝ }
+{
+    let first = put(k, d.first, a.first, b.first);
+    let over = put(0, d.over, a.over, b.over);
+    row(first, over, n, at, out)
 }

@@ -1,63 +1,115 @@
-// What is written for pairs of shares.
+// What is written for pairs of shares, by templates: share i's word is share 0's and i times the same number more.
+ghost use mathlib.Core.Path.{_≡_};
 ghost use mathlib.Core.List.{[], _∷_};
-ghost use Prim.Native.Nat.{_+_, _-_, _<_};
+ghost use Prim.Native.Nat.{_+_, _-_, _≤_, _<_};
 ghost use lib.ListN.{length};
+ghost use Rattle.word.specs.declared.step.Step.the-variants.{Xor, And};
+ghost use Rattle.word.specs.Encoding.{wordOf};
 ghost use Rattle.masking.specs.Translation.{pairs, pairsOf, shares, upFrom};
-ghost use Rattle.emission.specs.Written.{Emits, EachPairRegisters, Room, pairSteps};
+ghost use Rattle.emission.specs.Written.{Emits, Fits, PairFits, Room, pairSteps};
 ghost use Rattle.emission.specs.declared.pairs.EachPair.the-variants.{Refresh, Products};
-use crate::emit::put;
-use crate::emit::share_cell;
-use word::step::Step;
+use crate::emit::Cells;
+use crate::emit::cell_at;
+use crate::emit::put_word;
 use word::step_word::StepWord;
 
-// What AND does for each pair: a fresh word into both shares of y, or the cross products with the shares of register a.
+// What AND does for each pair: a fresh word into both shares of y, or the cross products with the shares of a.
 pub enum EachPair {
     Refresh,
-    Products(u16),
+    Products(Cells),
 }
 
-// "c XOR e": the result in c.
-fn put_xor(c: u16, e: u16, at: usize, out: &mut [u32]) -> usize
-    requires { ⌜ at < length (now out) ⌝ }
-    ensures { λ r. ⌜ Emits (now (out .entry)) at (Step.Xor c c e ∷ []) (now (out .exit)) r ⌝ }
+// Fields d and a: what a word is more where both are one more.
+const BOTH: u32 = StepWord::NUMBERS + StepWord::FIELD;
+
+// RAND t
+const RAND_T: u32 = StepWord::RAND * StepWord::KIND_UNIT + (StepWord::T as u32) * StepWord::NUMBERS;
+
+// t XOR u
+const XOR_T: u32 = StepWord::XOR * StepWord::KIND_UNIT
+    + (StepWord::T as u32) * BOTH
+    + (StepWord::U as u32);
+
+// y_0 XOR t and z_0 XOR t
+const XOR_Y: u32 = StepWord::XOR * StepWord::KIND_UNIT
+    + (StepWord::Y as u32) * BOTH
+    + (StepWord::T as u32);
+
+const XOR_Z: u32 = StepWord::XOR * StepWord::KIND_UNIT
+    + (StepWord::Z as u32) * BOTH
+    + (StepWord::T as u32);
+
+// u = cell 0 AND y_0
+const AND_U: u32 = StepWord::AND * StepWord::KIND_UNIT
+    + (StepWord::U as u32) * StepWord::NUMBERS
+    + (StepWord::Y as u32);
+
+// y_i XOR t
+fn xor_y(i: u8) -> u32
+    requires { ⌜ i < 8 ⌝ }
+    ensures { λ r. ⌜ r ≡ wordOf (Xor (256 + i) (256 + i) 272) ⌝ }
 {
-    put(Step::Xor { d: c, a: c, b: e }, at, out)
+    XOR_Y + (i as u32) * BOTH
 }
 
-// One product: u = a AND y, t XOR u.
-fn put_product(a: u16, y: u16, at: usize, out: &mut [u32]) -> usize
+// z_i XOR t
+fn xor_z(i: u8) -> u32
+    requires { ⌜ i < 8 ⌝ }
+    ensures { λ r. ⌜ r ≡ wordOf (Xor (264 + i) (264 + i) 272) ⌝ }
+{
+    XOR_Z + (i as u32) * BOTH
+}
+
+// u = a AND y_j
+fn and_u(a: u16, j: u8) -> u32
+    requires { ⌜ a < 512 ⌝ }
+    requires { ⌜ j < 8 ⌝ }
+    ensures { λ r. ⌜ r ≡ wordOf (And 273 a (256 + j)) ⌝ }
+{
+    AND_U + (a as u32) * StepWord::FIELD + (j as u32)
+}
+
+// One product: u = a AND y_j, t XOR u.
+fn put_product(a: u16, j: u8, at: usize, out: &mut [u32]) -> usize
+    requires { ⌜ a < 512 ⌝ }
+    requires { ⌜ j < 8 ⌝ }
     requires { ⌜ at + 1 < length (now out) ⌝ }
-    ensures { λ r. ⌜ Emits (now (out .entry)) at (Step.And 273 a y ∷ Step.Xor 272 272 273 ∷ []) (now (out .exit)) r ⌝ }
+    ensures { λ r. ⌜ Emits (now (out .entry)) at (And 273 a (256 + j) ∷ Xor 272 272 273 ∷ []) (now (out .exit)) r ⌝ }
 {
-    let d = StepWord::U;
-    let at = put(Step::And { d, a, b: y }, at, out);
-    put_xor(StepWord::T, StepWord::U, at, out)
+    let at = put_word(and_u(a, j), at, out);
+    put_word(XOR_T, at, out)
 }
 
 fn refresh_pair(i: u8, j: u8, at: usize, out: &mut [u32]) -> usize
+    requires { ⌜ i < 8 ⌝ }
+    requires { ⌜ j < 8 ⌝ }
     requires { ⌜ Room (now out) at (pairSteps Refresh (record { lo = i; hi = j } ∷ [])) ⌝ }
     ensures { λ r. ⌜ Emits (now (out .entry)) at (pairSteps Refresh (record { lo = i; hi = j } ∷ [])) (now (out .exit)) r ⌝ }
 {
-    let at = put(Step::Rand { d: StepWord::T }, at, out);
-    let at = put_xor(StepWord::y(i), StepWord::T, at, out);
-    put_xor(StepWord::y(j), StepWord::T, at, out)
+    let at = put_word(RAND_T, at, out);
+    let at = put_word(xor_y(i), at, out);
+    put_word(xor_y(j), at, out)
 }
 
-fn product_pair(a: u16, i: u8, j: u8, at: usize, out: &mut [u32]) -> usize
-    requires { ⌜ a < 40 ⌝ }
+fn product_pair(a: Cells, i: u8, j: u8, at: usize, out: &mut [u32]) -> usize
+    requires { ⌜ Fits a ⌝ }
+    requires { ⌜ i < 8 ⌝ }
+    requires { ⌜ j < 8 ⌝ }
     requires { ⌜ Room (now out) at (pairSteps (Products a) (record { lo = i; hi = j } ∷ [])) ⌝ }
     ensures { λ r. ⌜ Emits (now (out .entry)) at (pairSteps (Products a) (record { lo = i; hi = j } ∷ [])) (now (out .exit)) r ⌝ }
 {
-    let at = put(Step::Rand { d: StepWord::T }, at, out);
-    let at = put_xor(StepWord::z(i), StepWord::T, at, out);
-    let at = put_product(share_cell(i, a), StepWord::y(j), at, out);
-    let at = put_product(share_cell(j, a), StepWord::y(i), at, out);
-    put_xor(StepWord::z(j), StepWord::T, at, out)
+    let at = put_word(RAND_T, at, out);
+    let at = put_word(xor_z(i), at, out);
+    let at = put_product(cell_at(a, i), j, at, out);
+    let at = put_product(cell_at(a, j), i, at, out);
+    put_word(xor_z(j), at, out)
 }
 
 // Writes what the pair of shares i and j gets.
 fn one_pair(p: EachPair, i: u8, j: u8, at: usize, out: &mut [u32]) -> usize
-    requires { ⌜ EachPairRegisters p ⌝ }
+    requires { ⌜ PairFits p ⌝ }
+    requires { ⌜ i < 8 ⌝ }
+    requires { ⌜ j < 8 ⌝ }
     requires { ⌜ Room (now out) at (pairSteps p (record { lo = i; hi = j } ∷ [])) ⌝ }
     ensures { λ r. ⌜ Emits (now (out .entry)) at (pairSteps p (record { lo = i; hi = j } ∷ [])) (now (out .exit)) r ⌝ }
 {
@@ -69,8 +121,9 @@ fn one_pair(p: EachPair, i: u8, j: u8, at: usize, out: &mut [u32]) -> usize
 
 // The pairs of share i with the shares above it.
 fn pairs_of(p: EachPair, i: u8, n: u8, at: usize, out: &mut [u32]) -> usize
-    requires { ⌜ EachPairRegisters p ⌝ }
+    requires { ⌜ PairFits p ⌝ }
     requires { ⌜ i < n ⌝ }
+    requires { ⌜ n ≤ 8 ⌝ }
     requires { ⌜ Room (now out) at (pairSteps p (pairsOf i (upFrom (i + 1) (n - (i + 1))))) ⌝ }
     ensures { λ r. ⌜ Emits (now (out .entry)) at (pairSteps p (pairsOf i (upFrom (i + 1) (n - (i + 1))))) (now (out .exit)) r ⌝ }
 {
@@ -83,7 +136,8 @@ fn pairs_of(p: EachPair, i: u8, n: u8, at: usize, out: &mut [u32]) -> usize
 
 // All pairs i < j, by i and then j.
 pub fn all_pairs(p: EachPair, n: u8, at: usize, out: &mut [u32]) -> usize
-    requires { ⌜ EachPairRegisters p ⌝ }
+    requires { ⌜ PairFits p ⌝ }
+    requires { ⌜ n ≤ 8 ⌝ }
     requires { ⌜ Room (now out) at (pairSteps p (pairs (shares n))) ⌝ }
     ensures { λ r. ⌜ Emits (now (out .entry)) at (pairSteps p (pairs (shares n))) (now (out .exit)) r ⌝ }
 {

@@ -1,31 +1,19 @@
 -- A plan's share program word by word: the words of each plan word stand where the last one's ended. Rests on masking's counts.
 use mathlib.Core.Path.{_≡_, refl, sym, ap, ap₂, _∙_}
-use mathlib.Core.List.{List, [], _∷_, _++_, map}
+use mathlib.Core.List.{List, [], _∷_, _++_}
 use Prim.Native.Nat.{ℕ, zero, suc, _+_, _-_, _≤_, _<_}
 use native.Mathlib.Nat.{zero-add}
 use native.Mathlib.Numerals.{add-one}
 use native.Mathlib.Omega.{arith}
-use lib.ListN.{length, drop, getD, length-append, length-map, drop-of-length-le}
+use lib.ListN.{length, drop, getD, length-append, drop-of-length-le}
 use lib.Seq.{sets, sets-eq, length-sets, drop-cons}
-use Rattle.word.specs.declared.step.Step.{Step}
-use Rattle.word.specs.declared.step.Decoded.the-variants.{Good, Bad}
-use Rattle.word.specs.Encoding.{planStep, kindOf, wordOf}
-use Rattle.word.specs.Layout.{lengthOf}
-use Rattle.masking.specs.Translation.{scratch, blocks, laidOut, translated, wordsFor, program}
+use Rattle.word.specs.Encoding.{planStep}
+use Rattle.masking.specs.Translation.{wordsFor, program}
+use Rattle.emission.specs.Written as emission
 use Rattle.masking.specs.Foretold.{Accepted, foretoldWords}
-use Rattle.masking.proofs.emitted.Counts.{step-counts, plan-counts}
+use Rattle.masking.proofs.emitted.Counts.{plan-counts}
 use Rattle.masking.proofs.emitted.Steps.{PlanWord, PlanWords, plan-words}
 use Rattle.checks.proofs.Slices.{sets-append}
-
--- ---- one plan word
-
--- the words of a good plan word are those of its steps
-pub good-words : (n w : ℕ) (s : Step) → planStep w ≡ Good s → wordsFor n (planStep w) ≡ map wordOf (blocks scratch n (laidOut s))
-unfolding translated
-good-words n w s e = ap (wordsFor n) e
-
-pub bad-words : (n w : ℕ) → planStep w ≡ Bad → wordsFor n (planStep w) ≡ []
-bad-words n w e = ap (wordsFor n) e
 
 -- ---- a plan's words in turn
 
@@ -41,10 +29,11 @@ plan-word (w ∷ ws) zero h l = h .0
 plan-word (w ∷ ws) (suc i) h l = plan-word ws i (h .1) (omega arith)
 
 module _ (n : ℕ) (plan : List ℕ) (A : Accepted n plan) where
-  pub word-length : (i : ℕ) → i < length plan → length (wordsFor n (planStep (getD plan i 0))) ≡ lengthOf (kindOf (getD plan i 0)) n
-  word-length i l =
+  -- each is good
+  pub word-good : (i : ℕ) → i < length plan → emission.PlanWord (getD plan i 0)
+  word-good i l =
       let p = plan-word plan i (plan-words plan (A .good)) l in
-      rw (p .apart, p .kind) (length-map (translated n (p .step)) wordOf ∙ step-counts n (A .least) (A .most) (p .step) (p .inRange) .words)
+      record { step = p .step; apart = p .apart }
 
   module _ (out₀ out : List ℕ) (at i : ℕ) (g : Going n plan out₀ out at i) (l : i < length plan) where
     next-word : program n (drop i plan) ≡ wordsFor n (planStep (getD plan i 0)) ++ program n (drop (i + 1) plan)
@@ -64,14 +53,13 @@ module _ (n : ℕ) (plan : List ℕ) (A : Accepted n plan) where
 
     -- they are written
     pub going-on : {out' : List ℕ} {at' : ℕ} → out' ≡ sets out at (wordsFor n (planStep (getD plan i 0)))
-        → at' ≡ at + lengthOf (kindOf (getD plan i 0)) n → Going n plan out₀ out' at' (i + 1)
+        → at' ≡ at + length (wordsFor n (planStep (getD plan i 0))) → Going n plan out₀ out' at' (i + 1)
     going-on {out'} {at'} e a =
         let ws = wordsFor n (planStep (getD plan i 0)) in
-        let b : at + length ws ≡ at' = ap (λ (k : ℕ). at + k) (word-length i l) ∙ sym a in
         record {
           same =
               g .same ∙ ap (sets out at) next-word ∙ sets-append out at ws (program n (drop (i + 1) plan))
-              ∙ ap₂ (λ (o : List ℕ) (k : ℕ). sets o k (program n (drop (i + 1) plan))) (sym e) b;
+              ∙ ap₂ (λ (o : List ℕ) (k : ℕ). sets o k (program n (drop (i + 1) plan))) (sym e) (sym a);
           ends = omega (arith, g .ends, ap length next-word, length-append ws (program n (drop (i + 1) plan)));
           long = ap length e ∙ length-sets out at ws ∙ g .long;
         }

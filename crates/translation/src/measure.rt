@@ -11,7 +11,7 @@ use checks::share_count::is_share_count;
 use word::step_word::StepWord;
 
 // Share words that a plan word gives for n shares, by its kind.
-pub(crate) fn share_words(w: u32, n: u8) -> usize
+fn share_words(w: u32, n: u8) -> usize
     ensures { λ r. ⌜ r ≡ lengthOf (kindOf w) n ⌝ }
 {
     StepWord::length(StepWord::of(w).kind(), n)

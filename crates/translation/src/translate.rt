@@ -3,31 +3,15 @@ ghost use mathlib.Core.Path.{_≡_};
 ghost use mathlib.Core.List.{_++_};
 ghost use Prim.Native.Nat.{_≤_};
 ghost use lib.ListN.{length, drop};
-ghost use lib.Seq.{sets};
-ghost use Rattle.word.specs.Encoding.{planStep};
 ghost use Rattle.masking.specs.Foretold.{Accepted, foretoldWords};
-ghost use Rattle.masking.specs.Translation.{program, wordsFor};
+ghost use Rattle.masking.specs.Translation.{program};
 ghost use Rattle.translation.specs.Calls.{translateAnswer, translateOut};
 ghost use Rattle.translation.specs.Tied.{TranslateTied};
 use crate::measure::measure;
-use crate::measure::share_words;
 use checks::answer::Answer;
-use emission::blocks::laid_out;
-use word::step::Decoded;
-use word::step_word::StepWord;
+use emission::plan_word::plan_word;
 
-// Writes one plan word's translation at the front of what is lent.
-fn translate_word(n: u8, w: u32, out: &mut [u32])
-    requires { ⌜ length (wordsFor n (planStep w)) ≤ length (now out) ⌝ }
-    ensures { λ _. ⌜ now (out .exit) ≡ sets (now (out .entry)) 0 (wordsFor n (planStep w)) ⌝ }
-{
-    let Decoded::Good(s) = StepWord::of(w).plan_step() else {
-        return;
-    };
-    laid_out(s, n, 0, out);
-}
-
-// Writes the words of each plan word where the last one's ended.
+// Writes the words of each plan word where the last one's ended. The answer was given before, so that no word is bad.
 fn translate_words(n: u8, plan: &[u32], out: &mut [u32])
     requires { ⌜ Accepted n (now plan) ⌝ }
     requires { ⌜ foretoldWords n (now plan) ≤ length (now out) ⌝ }
@@ -36,8 +20,7 @@ fn translate_words(n: u8, plan: &[u32], out: &mut [u32])
     let mut at = 0;
     for i in 0..plan.len() {
         let w = plan[i];
-        translate_word(n, w, &mut out[at..]);
-        at += share_words(w, n);
+        at += plan_word(n, w, &mut out[at..]);
     }
 }
 

@@ -6,7 +6,7 @@ use lib.ListN.{drop, drop-of-length-le}
 use Rattle.masking.specs.Translation.{scratch, block, blocks, adding}
 use Rattle.emission.specs.Written.{adderStep}
 use Rattle.emission.proofs.Parts.{Left, start, renamed, part, room, whole}
-use Rattle.emission.proofs.Laid.{adding-length, adder-registers, adder-next}
+use Rattle.emission.proofs.Laid.{adding-length, adder-next}
 use Rattle.emission.proofs.blocks.adding.Statement.{statement}
 use Rattle.emission.proofs.blocks.adding.Tie as tie
 
@@ -19,20 +19,19 @@ abbrev μ-loop : tie.MeasureT-loop
 loop-holds : tie.Need-loop-holds Inv-loop μ-loop
 loop-holds c = (omega arith, start _ _ _, refl)
 
-block-requires : tie.Need-block-requires Inv-loop μ-loop
-block-requires c κs =
-    let a = c .before .before .before .before .before .args in
-    let k = c .before .before .before .loop .k in
-    let l = renamed _ _ _ (adder-next (a .d) (a .a) (a .b) (a .n) k (omega arith)) (c .before .before .before .loop .inv .1) in
-    rw (c .before .adder-step .ensures)
-    (adder-registers (a .d) (a .a) (a .b) (c .before .before .before .before .before .pre .0) k (omega arith), room _ _ l (c .before .before .before .before .before .pre .1))
+adder-step-requires : tie.Need-adder-step-requires Inv-loop μ-loop
+adder-step-requires c κs =
+    let a = c .before .before .before .before .args in
+    let k = c .before .before .loop .k in
+    let l = renamed _ _ _ (adder-next (a .d) (a .a) (a .b) (a .n) k (omega arith)) (c .before .before .loop .inv .1) in
+    (c .before .before .before .before .pre .0, (omega arith, (c .before .before .before .before .pre .1 .0, room (block scratch (a .n) (adderStep (a .d) (a .a) (a .b) k)) _ l (c .before .before .before .before .pre .1 .1))))
 
 loop-again : tie.Need-loop-again Inv-loop μ-loop
 loop-again c =
-    let a = c .before .before .before .before .before .before .before .before .args in
-    let k = c .before .before .before .before .before .before .loop .k in
-    let l = renamed _ _ _ (adder-next (a .d) (a .a) (a .b) (a .n) k (omega arith)) (c .before .before .before .before .before .before .loop .inv .1) in
-    (omega arith, part (block scratch (a .n) (adderStep (a .d) (a .a) (a .b) k)) _ l (rw (c .before .before .before .before .adder-step .ensures) at (c .before .before .block .ensures)), refl)
+    let a = c .before .before .before .before .before .before .before .args in
+    let k = c .before .before .before .before .before .loop .k in
+    let l = renamed _ _ _ (adder-next (a .d) (a .a) (a .b) (a .n) k (omega arith)) (c .before .before .before .before .before .loop .inv .1) in
+    (omega arith, part (block scratch (a .n) (adderStep (a .d) (a .a) (a .b) k)) _ l (c .before .before .adder-step .ensures), refl)
 
 same-length : tie.Need-same-length Inv-loop μ-loop
 same-length c = c .before .loop .inv .1 .long
@@ -49,8 +48,7 @@ adding-spec =
     Inv-loop
     μ-loop
     loop-holds
-    (λ c κs. omega arith)
-    block-requires
+    adder-step-requires
     (λ c. omega arith)
     (λ c. omega arith)
     loop-again

@@ -8,13 +8,13 @@ use Rattle.emission.proofs.blocks.and_block.Tie as tie
 and-steps-requires : tie.Need-and-steps-requires
 and-steps-requires c κs =
     let g = c .before .before .args in
-    (c .before .before .pre .0, room _ _ (renamed _ _ _ (and-wiped (g .n) (g .d) (g .a) (g .b)) (start _ _ _)) (c .before .before .pre .1))
+    (c .before .before .pre .0, (c .before .before .pre .1 .0, room _ _ (renamed _ _ _ (and-wiped (g .n) (g .d) (g .a) (g .b)) (start _ _ _)) (c .before .before .pre .1 .1)))
 
 wiping-requires : tie.Need-wiping-requires
 wiping-requires c κs =
     let g = c .before .before .before .before .before .before .args in
     let l₁ = part _ _ (renamed _ _ _ (and-wiped (g .n) (g .d) (g .a) (g .b)) (start _ _ _)) (c .before .before .before .and-steps .ensures) in
-    room-last l₁ (c .before .before .before .before .before .before .pre .1)
+    (c .before .before .before .before .before .before .pre .1 .0, room-last l₁ (c .before .before .before .before .before .before .pre .1 .1))
 
 returns : tie.Need-returns
 returns c =

@@ -31,7 +31,7 @@ pairs-of-requires c κs =
     let ts = pairSteps p (pairs (upFrom (i + 1) (n - (i + 1)))) in
     let h : i < n = omega arith in
     let l = renamed _ _ _ (ap (λ (is : List ℕ). pairSteps p (pairs is)) (rising i n (omega arith)) ∙ pair-append p _ _) (c .before .before .loop .inv .1) in
-    (c .before .before .before .before .pre .0, (h, room row ts l (c .before .before .before .before .pre .1)))
+    (c .before .before .before .before .pre .0, (h, (c .before .before .before .before .pre .1 .0, room row ts l (c .before .before .before .before .pre .1 .1))))
 
 loop-again : tie.Need-loop-again Inv-loop μ-loop
 loop-again c =

@@ -28,7 +28,7 @@ one-pair-requires c κs =
     let j = c .before .before .loop .j in
     let ts = pairSteps p (pairsOf i (upFrom (j + 1) (n - (j + 1)))) in
     let l = renamed _ _ _ (ap (λ (js : List ℕ). pairSteps p (pairsOf i js)) (rising j n (omega arith)) ∙ pair-first p _ _) (c .before .before .loop .inv .1) in
-    (c .before .before .before .before .pre .0, room (pairSteps p (record { lo = i; hi = j } ∷ [])) ts l (c .before .before .before .before .pre .1 .1))
+    (c .before .before .before .before .pre .0, (omega arith, (omega arith, room (pairSteps p (record { lo = i; hi = j } ∷ [])) ts l (c .before .before .before .before .pre .1 .1 .1))))
 
 loop-again : tie.Need-loop-again Inv-loop μ-loop
 loop-again c =

@@ -1,15 +1,18 @@
 -- `emission::pairs::refresh_pair` meets its contract.
+use mathlib.Core.Path.{refl}
 use borrow.Author.Needs.{needs}
-use Rattle.emission.proofs.Parts.{start, part, whole}
+use Rattle.word.specs.declared.step.Step.the-variants.{Rand, Xor}
+use Rattle.word.specs.Encoding.{put}
+use Rattle.emission.proofs.Parts.{start, part, whole, as-step}
 use Rattle.emission.proofs.pairs.refresh_pair.Statement.{statement}
 use Rattle.emission.proofs.pairs.refresh_pair.Tie as tie
 
 returns : tie.Need-returns
+unfolding put
 returns c =
-    whole
-    (part _ _
-    (part _ _ (part _ _ (start _ _ _) (c .before .before .before .before .before .before .before .before .before .before .before .before .put .ensures)) (rw (c .before .before .before .before .before .before .before .before .before .y .ensures) at (c .before .before .before .before .before .before .before .put-xor .ensures)))
-    (rw (c .before .before .before .before .y2 .ensures) at (c .before .before .put-xor2 .ensures)))
+    let l₁ = part _ _ (start _ _ _) (as-step (Rand 272) refl (c .before .before .before .before .before .before .before .before .before .before .before .before .put-word .ensures)) in
+    let l₂ = part _ _ l₁ (as-step (Xor _ _ 272) (c .before .before .before .before .before .before .before .before .before .xor-y .ensures) (c .before .before .before .before .before .before .before .put-word2 .ensures)) in
+    whole (part _ _ l₂ (as-step (Xor _ _ 272) (c .before .before .before .before .xor-y2 .ensures) (c .before .before .put-word3 .ensures)))
 
 pub refresh-pair-spec : {M : Type 1} → statement M
 refresh-pair-spec =

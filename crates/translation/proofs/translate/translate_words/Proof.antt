@@ -1,13 +1,13 @@
 -- `translation::translate::translate_words` meets its contract.
 use mathlib.Core.Path.{_≡_, refl, ap}
-use Prim.Native.Nat.{ℕ, _+_, _-_, _≤_}
+use Prim.Native.Nat.{_-_, _≤_}
 use native.Mathlib.Omega.{arith}
 use lib.ListN.{length, getD, length-drop}
 use denote.Ref.{now}
 use borrow.Author.Needs.{needs}
 use Rattle.word.specs.Encoding.{planStep}
 use Rattle.masking.specs.Translation.{wordsFor}
-use Rattle.translation.proofs.Program.{Going, going, word-length, next-fits, going-on, gone}
+use Rattle.translation.proofs.Program.{Going, going, word-good, next-fits, going-on, gone}
 use Rattle.checks.proofs.Slices.{part-is, part-back}
 use Rattle.translation.proofs.translate.translate_words.Statement.{statement}
 use Rattle.translation.proofs.translate.translate_words.Tie as tie
@@ -21,8 +21,8 @@ abbrev μ-loop : tie.MeasureT-loop
 loop-holds : tie.Need-loop-holds Inv-loop μ-loop
 loop-holds c = (omega arith, refl, going _ _ _)
 
-mul-translate-word : tie.Need-mul-translate-word Inv-loop μ-loop
-mul-translate-word c =
+mul-plan-word : tie.Need-mul-plan-word Inv-loop μ-loop
+mul-plan-word c =
     let n = c .before .before .before .before .before .args .n in
     let plan = now (c .before .before .before .before .before .args .plan) in
     let out = c .before .before .loop .out in
@@ -31,8 +31,8 @@ mul-translate-word c =
     let g = c .before .before .loop .inv .2 in
     omega (arith, next-fits n plan (c .before .before .before .before .before .pre .0) _ out at i g (omega arith) (c .before .before .before .before .before .pre .1), c .before .before .before .before .before .good)
 
-sub-translate-word : tie.Need-sub-translate-word Inv-loop μ-loop
-sub-translate-word c =
+sub-plan-word : tie.Need-sub-plan-word Inv-loop μ-loop
+sub-plan-word c =
     let n = c .before .before .before .before .before .args .n in
     let plan = now (c .before .before .before .before .before .args .plan) in
     let out = c .before .before .loop .out in
@@ -41,8 +41,8 @@ sub-translate-word c =
     let g = c .before .before .loop .inv .2 in
     omega (arith, next-fits n plan (c .before .before .before .before .before .pre .0) _ out at i g (omega arith) (c .before .before .before .before .before .pre .1))
 
-part-translate-word-start : tie.Need-part-translate-word-start Inv-loop μ-loop
-part-translate-word-start c =
+part-plan-word-start : tie.Need-part-plan-word-start Inv-loop μ-loop
+part-plan-word-start c =
     let n = c .before .before .before .before .before .args .n in
     let plan = now (c .before .before .before .before .before .args .plan) in
     let out = c .before .before .loop .out in
@@ -51,8 +51,8 @@ part-translate-word-start c =
     let g = c .before .before .loop .inv .2 in
     omega (arith, next-fits n plan (c .before .before .before .before .before .pre .0) _ out at i g (omega arith) (c .before .before .before .before .before .pre .1))
 
-translate-word-requires : tie.Need-translate-word-requires Inv-loop μ-loop
-translate-word-requires c κs =
+plan-word-requires : tie.Need-plan-word-requires Inv-loop μ-loop
+plan-word-requires c κs =
     let n = c .before .before .before .before .before .before .args .n in
     let plan = now (c .before .before .before .before .before .before .args .plan) in
     let out = c .before .before .before .loop .out in
@@ -60,31 +60,32 @@ translate-word-requires c κs =
     let i = c .before .before .before .loop .i in
     let g = c .before .before .before .loop .inv .2 in
     let r = next-fits n plan (c .before .before .before .before .before .before .pre .0) _ out at i g (omega arith) (c .before .before .before .before .before .before .pre .1) in
-    omega (arith, ap length (part-is at out (omega arith)), length-drop at out)
+    (word-good n plan (c .before .before .before .before .before .before .pre .0) i (omega arith), ((omega (arith, c .before .before .before .before .before .before .pre .0 .least), c .before .before .before .before .before .before .pre .0 .most), omega (arith, ap length (part-is at out (omega arith)), length-drop at out)))
 
 add-at : tie.Need-add-at Inv-loop μ-loop
 add-at c =
-    let n = c .before .before .before .before .before .before .before .before .before .before .args .n in
-    let plan = now (c .before .before .before .before .before .before .before .before .before .before .args .plan) in
-    let out = c .before .before .before .before .before .before .before .loop .out in
-    let at = c .before .before .before .before .before .before .before .loop .at in
-    let i = c .before .before .before .before .before .before .before .loop .i in
-    let g = c .before .before .before .before .before .before .before .loop .inv .2 in
-    omega (arith, next-fits n plan (c .before .before .before .before .before .before .before .before .before .before .pre .0) _ out at i g (omega arith) (c .before .before .before .before .before .before .before .before .before .before .pre .1), c .before .before .before .before .before .before .before .before .before .before .good, c .share-words .ensures, word-length n plan (c .before .before .before .before .before .before .before .before .before .before .pre .0) i (omega arith))
+    let n = c .before .before .before .before .before .before .before .before .before .args .n in
+    let plan = now (c .before .before .before .before .before .before .before .before .before .args .plan) in
+    let out = c .before .before .before .before .before .before .loop .out in
+    let at = c .before .before .before .before .before .before .loop .at in
+    let i = c .before .before .before .before .before .before .loop .i in
+    let g = c .before .before .before .before .before .before .loop .inv .2 in
+    omega (arith, next-fits n plan (c .before .before .before .before .before .before .before .before .before .pre .0) _ out at i g (omega arith) (c .before .before .before .before .before .before .before .before .before .pre .1), c .before .before .before .before .before .before .before .before .before .good, c .before .before .plan-word .ensures .ends)
 
 loop-again : tie.Need-loop-again Inv-loop μ-loop
 loop-again c =
-    let n = c .before .before .before .before .before .before .before .before .before .before .args .n in
-    let plan = now (c .before .before .before .before .before .before .before .before .before .before .args .plan) in
-    let out = c .before .before .before .before .before .before .before .loop .out in
-    let at = c .before .before .before .before .before .before .before .loop .at in
-    let i = c .before .before .before .before .before .before .before .loop .i in
-    let g = c .before .before .before .before .before .before .before .loop .inv .2 in
-    let r = next-fits n plan (c .before .before .before .before .before .before .before .before .before .before .pre .0) _ out at i g (omega arith) (c .before .before .before .before .before .before .before .before .before .before .pre .1) in (
+    let n = c .before .before .before .before .before .before .before .before .before .args .n in
+    let plan = now (c .before .before .before .before .before .before .before .before .before .args .plan) in
+    let out = c .before .before .before .before .before .before .loop .out in
+    let at = c .before .before .before .before .before .before .loop .at in
+    let i = c .before .before .before .before .before .before .loop .i in
+    let g = c .before .before .before .before .before .before .loop .inv .2 in
+    let r = next-fits n plan (c .before .before .before .before .before .before .before .before .before .pre .0) _ out at i g (omega arith) (c .before .before .before .before .before .before .before .before .before .pre .1) in
+    let e = c .before .before .plan-word .ensures in (
       omega arith,
       refl,
-      going-on n plan (c .before .before .before .before .before .before .before .before .before .before .pre .0) _ out at i g (omega arith)
-          (part-back at out (omega arith) (wordsFor n (planStep (getD plan i 0))) (c .before .before .before .translate-word .ensures)) (ap (λ (x : ℕ). at + x) (c .share-words .ensures)),
+      going-on n plan (c .before .before .before .before .before .before .before .before .before .pre .0) _ out at i g (omega arith)
+          (part-back at out (omega arith) (wordsFor n (planStep (getD plan i 0))) (e .written)) (omega (arith, e .ends)),
     )
 
 same-length : tie.Need-same-length Inv-loop μ-loop
@@ -102,12 +103,11 @@ translate-words-spec =
     loop-holds
     (λ c. search needs)
     (λ c. search needs)
-    mul-translate-word
-    sub-translate-word
-    part-translate-word-start
+    mul-plan-word
+    sub-plan-word
+    part-plan-word-start
     (λ c. search needs)
-    translate-word-requires
-    (λ c κs. search needs)
+    plan-word-requires
     add-at
     (λ c. search needs)
     (λ c. search needs)

@@ -1,0 +1,36 @@
+-- `emission::plan_word::add_word` meets its contract.
+use Prim.Native.Nat.{_^_, _<_}
+use native.Mathlib.Omega.{arith}
+use borrow.Author.Needs.{needs}
+use Rattle.emission.proofs.Parts.{words-room, as-words}
+use Rattle.emission.proofs.Straight.{fields-of, add-words}
+use Rattle.emission.proofs.plan_word.add_word.Statement.{statement}
+use Rattle.emission.proofs.plan_word.add_word.Tie as tie
+
+adding-requires : tie.Need-adding-requires
+adding-requires c κs =
+    let w = c .before .before .before .before .before .before .args .w in
+    let n = c .before .before .before .before .before .before .args .n in
+    let lt : w < 2 ^ 32 = omega (arith, c .before .before .before .before .before .before .good) in
+    let f = fields-of w lt (c .before .before .before .before .before .before .pre .0) .1 (c .before .before .before .before .before .before .pre .1 .0) in
+    rw (c .before .before .before .d .ensures, c .before .before .a .ensures, c .before .b .ensures, c .before .before .before .before .of .ensures)
+    ((f .d, f .a, f .b), (c .before .before .before .before .before .before .pre .1 .1 .0, words-room _ (add-words n w (c .before .before .before .before .before .before .pre .0) f) (c .before .before .before .before .before .before .pre .1 .1 .1)))
+
+returns : tie.Need-returns
+returns c =
+    let w = c .before .before .before .before .before .before .before .before .before .args .w in
+    let n = c .before .before .before .before .before .before .before .before .before .args .n in
+    let lt : w < 2 ^ 32 = omega (arith, c .before .before .before .before .before .before .before .before .before .good) in
+    let f = fields-of w lt (c .before .before .before .before .before .before .before .before .before .pre .0) .1 (c .before .before .before .before .before .before .before .before .before .pre .1 .0) in
+    as-words _ (add-words n w (c .before .before .before .before .before .before .before .before .before .pre .0) f) (rw (c .before .before .before .before .before .before .d .ensures, c .before .before .before .before .before .a .ensures, c .before .before .before .before .b .ensures, c .before .before .before .before .before .before .before .of .ensures) at (c .before .before .adding .ensures))
+
+pub add-word-spec : {M : Type 1} → statement M
+add-word-spec =
+    tie.close (tie.spec
+    (λ c κs. search needs)
+    (λ c κs. search needs)
+    (λ c κs. search needs)
+    (λ c κs. search needs)
+    adding-requires
+    (λ c. search needs)
+    returns)
