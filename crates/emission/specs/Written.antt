@@ -66,6 +66,11 @@ eachWord k d a b n = eachFrom k d a b 0 n
 abbrev pub cellsFor : ℕ → Cells
 cellsFor r = record { first = cond (ltb r 32) r (r + 256); over = cond (ltb r 32) 32 8 }
 
+-- a plan's register, by where its shares lie
+pub record Register (c : Cells) : Type 0 where
+  pub low : c .first < 32
+  pub share : c .over ≡ 32
+
 -- what pairs get
 abbrev pub pairSteps : EachPair → List Pair → List Step
 pairSteps Refresh ps = refresh scratch ps

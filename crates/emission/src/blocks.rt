@@ -1,10 +1,9 @@
 // The share words of AND, and of ADD, which is laid out in XOR, AND and SHL on registers.
-ghost use mathlib.Core.Path.{_≡_};
 ghost use Prim.Native.Nat.{_≤_, _<_};
 ghost use Rattle.masking.specs.Translation as translation;
 ghost use Rattle.masking.specs.Translation.{andBlock, andSteps, block, scratch, scratchCells};
 ghost use Rattle.emission.specs.Written as emission;
-ghost use Rattle.emission.specs.Written.{Emits, Fits, Room, cellsFor, cellsOn};
+ghost use Rattle.emission.specs.Written.{Emits, Fits, Register, Room, cellsOn};
 use crate::emit::Cells;
 use crate::emit::each_share;
 use crate::emit::put_word;
@@ -93,14 +92,6 @@ pub fn and_block(d: Cells, a: Cells, b: Cells, n: u8, at: usize, out: &mut [u32]
     wiping(n, at, out)
 }
 
-// The cells of a plan's register.
-pub fn register(r: u16) -> Cells
-    requires { ⌜ r < 32 ⌝ }
-    ensures { λ c. ⌜ c ≡ cellsFor r ⌝ }
-{
-    Cells { first: r, over: 32 }
-}
-
 // Step j of ADD's round r, whose shift is 2^r: T = G SHL 2^r; T = P AND T; G = G XOR T; T = P SHL 2^r; P = P AND T.
 fn round_step(r: u16, j: u16, n: u8, at: usize, out: &mut [u32]) -> usize
     requires { ⌜ r < 6 ⌝ }
@@ -122,29 +113,29 @@ fn round_step(r: u16, j: u16, n: u8, at: usize, out: &mut [u32]) -> usize
 }
 
 // Step k of the 33 that ADD is laid out in, by the Kogge-Stone adder: three first, five for each round, the last round's three, two last.
-fn adder_step(d: u16, a: u16, b: u16, k: u16, n: u8, at: usize, out: &mut [u32]) -> usize
-    requires { ⌜ (d < 32) × (a < 32) × (b < 32) ⌝ }
+fn adder_step(d: Cells, a: Cells, b: Cells, k: u16, n: u8, at: usize, out: &mut [u32]) -> usize
+    requires { ⌜ (Register d) × (Register a) × (Register b) ⌝ }
     requires { ⌜ k < 33 ⌝ }
     requires { ⌜ n ≤ 8 ⌝ }
-    requires { ⌜ Room (now out) at (block scratch n (emission.adderStep d a b k)) ⌝ }
-    ensures { λ r. ⌜ Emits (now (out .entry)) at (block scratch n (emission.adderStep d a b k)) (now (out .exit)) r ⌝ }
+    requires { ⌜ Room (now out) at (block scratch n (emission.adderStep (d .first) (a .first) (b .first) k)) ⌝ }
+    ensures { λ r. ⌜ Emits (now (out .entry)) at (block scratch n (emission.adderStep (d .first) (a .first) (b .first) k)) (now (out .exit)) r ⌝ }
 {
     match k {
-        0 => each_share(StepWord::XOR, H, register(a), register(b), n, at, out),
-        1 => and_block(G, register(a), register(b), n, at, out),
+        0 => each_share(StepWord::XOR, H, a, b, n, at, out),
+        1 => and_block(G, a, b, n, at, out),
         2 => each_share(StepWord::SHL, P, H, ZERO, n, at, out),
         31 => each_share(StepWord::SHL, T, G, ONE, n, at, out),
-        32 => each_share(StepWord::XOR, register(d), H, T, n, at, out),
+        32 => each_share(StepWord::XOR, d, H, T, n, at, out),
         _ => round_step((k - 3) / 5, (k - 3) % 5, n, at, out),
     }
 }
 
 // ADD's steps one after another.
-pub fn adding(d: u16, a: u16, b: u16, n: u8, at: usize, out: &mut [u32]) -> usize
-    requires { ⌜ (d < 32) × (a < 32) × (b < 32) ⌝ }
+pub fn adding(d: Cells, a: Cells, b: Cells, n: u8, at: usize, out: &mut [u32]) -> usize
+    requires { ⌜ (Register d) × (Register a) × (Register b) ⌝ }
     requires { ⌜ n ≤ 8 ⌝ }
-    requires { ⌜ Room (now out) at (translation.blocks scratch n (translation.adding d a b)) ⌝ }
-    ensures { λ r. ⌜ Emits (now (out .entry)) at (translation.blocks scratch n (translation.adding d a b)) (now (out .exit)) r ⌝ }
+    requires { ⌜ Room (now out) at (translation.blocks scratch n (translation.adding (d .first) (a .first) (b .first))) ⌝ }
+    ensures { λ r. ⌜ Emits (now (out .entry)) at (translation.blocks scratch n (translation.adding (d .first) (a .first) (b .first))) (now (out .exit)) r ⌝ }
 {
     let mut at = at;
     for k in 0..33 {

@@ -3,7 +3,7 @@ ghost use mathlib.Core.Path.{_≡_};
 ghost use mathlib.Core.List.{[], _∷_};
 ghost use Prim.Native.Nat.{_+_, _-_, _≤_, _<_};
 ghost use lib.ListN.{length};
-ghost use Rattle.emission.specs.Written.{EachFits, Fits, Rises, Words, cellsOn, eachWord, rowOf};
+ghost use Rattle.emission.specs.Written.{EachFits, Rises, Words, eachWord, rowOf};
 use word::step_rule::put;
 
 // Where the shares of a register, a helper or a scratch cell lie: share i's cell is first + over * i. A field that is no cell stays as it is.
@@ -45,15 +45,6 @@ pub fn alone(first: u32, other: u32, over: u32, n: u8, at: usize, out: &mut [u32
 {
     let at = put_word(first, at, out);
     row(other, over, n - 1, at, out)
-}
-
-// The cell of a share.
-pub fn cell_at(c: Cells, i: u8) -> u16
-    requires { ⌜ Fits c ⌝ }
-    requires { ⌜ i < 8 ⌝ }
-    ensures { λ r. ⌜ r ≡ cellsOn c i ⌝ }
-{
-    c.first + c.over * (i as u16)
 }
 
 // Writes a word of kind k for each share, shares rising from 0: from share to share it is the fields' steps more, put together as a word of

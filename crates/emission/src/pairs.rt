@@ -1,15 +1,14 @@
 // What is written for pairs of shares, by templates: share i's word is share 0's and i times the same number more.
 ghost use mathlib.Core.Path.{_≡_};
 ghost use mathlib.Core.List.{[], _∷_};
-ghost use Prim.Native.Nat.{_+_, _-_, _≤_, _<_};
+ghost use Prim.Native.Nat.{_+_, _-_, _*_, _^_, _≤_, _<_};
 ghost use lib.ListN.{length};
 ghost use Rattle.word.specs.declared.step.Step.the-variants.{Xor, And};
 ghost use Rattle.word.specs.Encoding.{wordOf};
 ghost use Rattle.masking.specs.Translation.{pairs, pairsOf, shares, upFrom};
-ghost use Rattle.emission.specs.Written.{Emits, Fits, PairFits, Room, pairSteps};
+ghost use Rattle.emission.specs.Written.{Emits, Fits, PairFits, Room, Words, cellsOn, pairSteps};
 ghost use Rattle.emission.specs.declared.pairs.EachPair.the-variants.{Refresh, Products};
 use crate::emit::Cells;
-use crate::emit::cell_at;
 use crate::emit::put_word;
 use word::step_word::StepWord;
 
@@ -44,39 +43,37 @@ const AND_U: u32 = StepWord::AND * StepWord::KIND_UNIT
     + (StepWord::U as u32) * StepWord::NUMBERS
     + (StepWord::Y as u32);
 
-// y_i XOR t
-fn xor_y(i: u8) -> u32
+// Writes a word whose fields d and a are i more.
+fn put_up(w: u32, i: u8, at: usize, out: &mut [u32]) -> usize
+    requires { ⌜ w < 2 ^ 31 ⌝ }
     requires { ⌜ i < 8 ⌝ }
-    ensures { λ r. ⌜ r ≡ wordOf (Xor (256 + i) (256 + i) 272) ⌝ }
+    requires { ⌜ at < length (now out) ⌝ }
+    ensures { λ r. ⌜ Words (now (out .entry)) at ((w + i * 262656) ∷ []) (now (out .exit)) r ⌝ }
 {
-    XOR_Y + (i as u32) * BOTH
+    out[at] = w + (i as u32) * BOTH;
+    at + 1
 }
 
-// z_i XOR t
-fn xor_z(i: u8) -> u32
+// u = a_i AND y_j
+fn and_u(a: Cells, i: u8, j: u8) -> u32
+    requires { ⌜ Fits a ⌝ }
     requires { ⌜ i < 8 ⌝ }
-    ensures { λ r. ⌜ r ≡ wordOf (Xor (264 + i) (264 + i) 272) ⌝ }
-{
-    XOR_Z + (i as u32) * BOTH
-}
-
-// u = a AND y_j
-fn and_u(a: u16, j: u8) -> u32
-    requires { ⌜ a < 512 ⌝ }
     requires { ⌜ j < 8 ⌝ }
-    ensures { λ r. ⌜ r ≡ wordOf (And 273 a (256 + j)) ⌝ }
+    ensures { λ r. ⌜ r ≡ wordOf (And 273 (cellsOn a i) (256 + j)) ⌝ }
 {
-    AND_U + (a as u32) * StepWord::FIELD + (j as u32)
+    let cell = a.first + a.over * (i as u16);
+    AND_U + (cell as u32) * StepWord::FIELD + (j as u32)
 }
 
-// One product: u = a AND y_j, t XOR u.
-fn put_product(a: u16, j: u8, at: usize, out: &mut [u32]) -> usize
-    requires { ⌜ a < 512 ⌝ }
+// One product: u = a_i AND y_j, t XOR u.
+fn put_product(a: Cells, i: u8, j: u8, at: usize, out: &mut [u32]) -> usize
+    requires { ⌜ Fits a ⌝ }
+    requires { ⌜ i < 8 ⌝ }
     requires { ⌜ j < 8 ⌝ }
     requires { ⌜ at + 1 < length (now out) ⌝ }
-    ensures { λ r. ⌜ Emits (now (out .entry)) at (And 273 a (256 + j) ∷ Xor 272 272 273 ∷ []) (now (out .exit)) r ⌝ }
+    ensures { λ r. ⌜ Emits (now (out .entry)) at (And 273 (cellsOn a i) (256 + j) ∷ Xor 272 272 273 ∷ []) (now (out .exit)) r ⌝ }
 {
-    let at = put_word(and_u(a, j), at, out);
+    let at = put_word(and_u(a, i, j), at, out);
     put_word(XOR_T, at, out)
 }
 
@@ -87,8 +84,8 @@ fn refresh_pair(i: u8, j: u8, at: usize, out: &mut [u32]) -> usize
     ensures { λ r. ⌜ Emits (now (out .entry)) at (pairSteps Refresh (record { lo = i; hi = j } ∷ [])) (now (out .exit)) r ⌝ }
 {
     let at = put_word(RAND_T, at, out);
-    let at = put_word(xor_y(i), at, out);
-    put_word(xor_y(j), at, out)
+    let at = put_up(XOR_Y, i, at, out);
+    put_up(XOR_Y, j, at, out)
 }
 
 fn product_pair(a: Cells, i: u8, j: u8, at: usize, out: &mut [u32]) -> usize
@@ -99,10 +96,10 @@ fn product_pair(a: Cells, i: u8, j: u8, at: usize, out: &mut [u32]) -> usize
     ensures { λ r. ⌜ Emits (now (out .entry)) at (pairSteps (Products a) (record { lo = i; hi = j } ∷ [])) (now (out .exit)) r ⌝ }
 {
     let at = put_word(RAND_T, at, out);
-    let at = put_word(xor_z(i), at, out);
-    let at = put_product(cell_at(a, i), j, at, out);
-    let at = put_product(cell_at(a, j), i, at, out);
-    put_word(xor_z(j), at, out)
+    let at = put_up(XOR_Z, i, at, out);
+    let at = put_product(a, i, j, at, out);
+    let at = put_product(a, j, i, at, out);
+    put_up(XOR_Z, j, at, out)
 }
 
 // Writes what the pair of shares i and j gets.

@@ -7,10 +7,13 @@ ghost use Rattle.masking.specs.Translation.{wordsFor};
 ghost use Rattle.emission.specs.Written.{PlanWord, Words};
 use crate::blocks::adding;
 use crate::blocks::and_block;
-use crate::blocks::register;
+use crate::emit::Cells;
 use crate::emit::alone;
 use crate::emit::row;
 use word::step_word::StepWord;
+
+// The cells from a register's share to the next one.
+const SHARE: u16 = StepWord::REGISTERS as u16;
 
 // From share to share: 32 cells on in field d, in d and a, and in all three.
 const D: u32 = 32 * StepWord::NUMBERS;
@@ -28,14 +31,19 @@ fn and_word(n: u8, w: u32, out: &mut [u32]) -> usize
     ensures { λ r. ⌜ Words (now (out .entry)) 0 (wordsFor n (planStep w)) (now (out .exit)) r ⌝ }
 {
     let word = StepWord::of(w);
-    and_block(
-        register(word.d()),
-        register(word.a()),
-        register(word.b()),
-        n,
-        0,
-        out,
-    )
+    let d = Cells {
+        first: word.d(),
+        over: SHARE,
+    };
+    let a = Cells {
+        first: word.a(),
+        over: SHARE,
+    };
+    let b = Cells {
+        first: word.b(),
+        over: SHARE,
+    };
+    and_block(d, a, b, n, 0, out)
 }
 
 // ADD's words.
@@ -47,7 +55,19 @@ fn add_word(n: u8, w: u32, out: &mut [u32]) -> usize
     ensures { λ r. ⌜ Words (now (out .entry)) 0 (wordsFor n (planStep w)) (now (out .exit)) r ⌝ }
 {
     let word = StepWord::of(w);
-    adding(word.d(), word.a(), word.b(), n, 0, out)
+    let d = Cells {
+        first: word.d(),
+        over: SHARE,
+    };
+    let a = Cells {
+        first: word.a(),
+        over: SHARE,
+    };
+    let b = Cells {
+        first: word.b(),
+        over: SHARE,
+    };
+    adding(d, a, b, n, 0, out)
 }
 
 // Writes the share words of a good word at the front of what is lent; the answer is how many. CONST and NOT have a word of their own in

@@ -1,10 +1,11 @@
 -- `emission::blocks::adder_step` meets its contract.
+use mathlib.Core.Path.{refl}
 use Prim.Native.Nat.{ℕ, _-_, _/_, _<_}
 use native.Mathlib.Omega.{arith}
 use borrow.Author.Tests.{ne-eqb}
 use borrow.Author.Needs.{needs}
 use Rattle.emission.specs.Written.{adderStep}
-use Rattle.emission.proofs.Laid.{for-fits, fixed-fits, room-each, room-and, as-xor, as-shl, as-and}
+use Rattle.emission.proofs.Laid.{for-fits, fixed-fits, register-is, register-fits, room-each, room-and, as-xor, as-shl, as-and}
 use Rattle.emission.proofs.blocks.adder_step.Statement.{statement}
 use Rattle.emission.proofs.blocks.adder_step.Tie as tie
 
@@ -14,14 +15,12 @@ round-lt k h = omega arith
 each-share-requires : tie.Need-each-share-requires
 unfolding adderStep
 each-share-requires c κs =
-    rw (c .before .before .register .ensures, c .before .register2 .ensures)
-    (record { kind = omega arith; fitsD = for-fits 32 (omega arith); fitsA = for-fits (c .before .before .before .before .before .args .a) (omega arith); fitsB = for-fits (c .before .before .before .before .before .args .b) (omega arith); most = c .before .before .before .before .before .pre .1 .1 .0 }, room-each _ (c .before .before .before .before .before .args .n) (rw (c .before .before .before .match .keys1) at (c .before .before .before .before .before .pre .1 .1 .1)))
+    (record { kind = omega arith; fitsD = for-fits 32 (omega arith); fitsA = register-fits _ (c .before .before .before .pre .0 .1); fitsB = register-fits _ (c .before .before .before .pre .0 .2); most = c .before .before .before .pre .1 .1 .0 }, room-each _ (c .before .before .before .args .n) (rw (c .before .match .keys1) at (c .before .before .before .pre .1 .1 .1)))
 
 and-block-requires : tie.Need-and-block-requires
 unfolding adderStep
 and-block-requires c κs =
-    rw (c .before .before .register3 .ensures, c .before .register4 .ensures)
-    ((for-fits 33 (omega arith), for-fits (c .before .before .before .before .before .args .a) (omega arith), for-fits (c .before .before .before .before .before .args .b) (omega arith)), (c .before .before .before .before .before .pre .1 .1 .0, room-and 33 (c .before .before .before .before .before .args .a) (c .before .before .before .before .before .args .b) (c .before .before .before .before .before .args .n) (rw (c .before .before .before .match .keys2) at (c .before .before .before .before .before .pre .1 .1 .1))))
+    ((for-fits 33 (omega arith), register-fits _ (c .before .before .before .pre .0 .1), register-fits _ (c .before .before .before .pre .0 .2)), (c .before .before .before .pre .1 .1 .0, room-and 33 (c .before .before .before .args .a .first) (c .before .before .before .args .b .first) (c .before .before .before .args .n) refl (register-is _ (c .before .before .before .pre .0 .1)) (register-is _ (c .before .before .before .pre .0 .2)) (rw (c .before .match .keys2) at (c .before .before .before .pre .1 .1 .1))))
 
 each-share-requires-2 : tie.Need-each-share-requires-2
 unfolding adderStep
@@ -36,8 +35,7 @@ each-share-requires-3 c κs =
 each-share-requires-4 : tie.Need-each-share-requires-4
 unfolding adderStep
 each-share-requires-4 c κs =
-    rw (c .before .register5 .ensures)
-    (record { kind = omega arith; fitsD = for-fits (c .before .before .before .before .args .d) (omega arith); fitsA = for-fits 32 (omega arith); fitsB = for-fits 35 (omega arith); most = c .before .before .before .before .pre .1 .1 .0 }, room-each _ (c .before .before .before .before .args .n) (rw (c .before .before .match .keys5) at (c .before .before .before .before .pre .1 .1 .1)))
+    (record { kind = omega arith; fitsD = register-fits _ (c .before .before .before .pre .0 .0); fitsA = for-fits 32 (omega arith); fitsB = for-fits 35 (omega arith); most = c .before .before .before .pre .1 .1 .0 }, room-each _ (c .before .before .before .args .n) (rw (c .before .match .keys5) at (c .before .before .before .pre .1 .1 .1)))
 
 sub-round-step : tie.Need-sub-round-step
 sub-round-step c = omega (arith, c .match .rest .0 .0 .0 .0 .1, c .match .rest .0 .0 .0 .1, c .match .rest .0 .0 .1)
@@ -53,23 +51,23 @@ round-step-requires c κs =
 
 returns : tie.Need-returns
 unfolding adderStep
-returns c = rw (c .before .before .before .before .before .before .match .keys1) (as-xor 32 (c .before .before .before .before .before .before .before .before .args .a) (c .before .before .before .before .before .before .before .before .args .b) (c .before .before .before .before .before .before .before .before .args .n) (rw (c .before .before .before .before .before .register .ensures, c .before .before .before .before .register2 .ensures) at (c .before .before .each-share .ensures)))
+returns c = rw (c .before .before .before .before .match .keys1) (as-xor 32 (c .before .before .before .before .before .before .args .a .first) (c .before .before .before .before .before .before .args .b .first) (c .before .before .before .before .before .before .args .n) refl (register-is _ (c .before .before .before .before .before .before .pre .0 .1)) (register-is _ (c .before .before .before .before .before .before .pre .0 .2)) (c .before .before .each-share .ensures))
 
 returns-2 : tie.Need-returns-2
 unfolding adderStep
-returns-2 c = rw (c .before .before .before .before .before .before .match .keys2) (as-and 33 (c .before .before .before .before .before .before .before .before .args .a) (c .before .before .before .before .before .before .before .before .args .b) (c .before .before .before .before .before .before .before .before .args .n) (rw (c .before .before .before .before .before .register3 .ensures, c .before .before .before .before .register4 .ensures) at (c .before .before .and-block .ensures)))
+returns-2 c = rw (c .before .before .before .before .match .keys2) (as-and 33 (c .before .before .before .before .before .before .args .a .first) (c .before .before .before .before .before .before .args .b .first) (c .before .before .before .before .before .before .args .n) refl (register-is _ (c .before .before .before .before .before .before .pre .0 .1)) (register-is _ (c .before .before .before .before .before .before .pre .0 .2)) (c .before .before .and-block .ensures))
 
 returns-3 : tie.Need-returns-3
 unfolding adderStep
-returns-3 c = rw (c .before .before .before .before .match .keys3) (as-shl 34 32 0 (c .before .before .before .before .before .before .args .n) (c .before .before .each-share2 .ensures))
+returns-3 c = rw (c .before .before .before .before .match .keys3) (as-shl 34 32 0 (c .before .before .before .before .before .before .args .n) refl refl refl (c .before .before .each-share2 .ensures))
 
 returns-4 : tie.Need-returns-4
 unfolding adderStep
-returns-4 c = rw (c .before .before .before .before .match .keys4) (as-shl 35 33 1 (c .before .before .before .before .before .before .args .n) (c .before .before .each-share3 .ensures))
+returns-4 c = rw (c .before .before .before .before .match .keys4) (as-shl 35 33 1 (c .before .before .before .before .before .before .args .n) refl refl refl (c .before .before .each-share3 .ensures))
 
 returns-5 : tie.Need-returns-5
 unfolding adderStep
-returns-5 c = rw (c .before .before .before .before .before .match .keys5) (as-xor (c .before .before .before .before .before .before .before .args .d) 32 35 (c .before .before .before .before .before .before .before .args .n) (rw (c .before .before .before .before .register5 .ensures) at (c .before .before .each-share4 .ensures)))
+returns-5 c = rw (c .before .before .before .before .match .keys5) (as-xor (c .before .before .before .before .before .before .args .d .first) 32 35 (c .before .before .before .before .before .before .args .n) (register-is _ (c .before .before .before .before .before .before .pre .0 .0)) refl refl (c .before .before .each-share4 .ensures))
 
 returns-6 : tie.Need-returns-6
 unfolding adderStep
@@ -81,15 +79,10 @@ pub adder-step-spec : {M : Type 1} → statement M
 adder-step-spec =
     tie.close
     (tie.spec
-    (λ c κs. search needs)
-    (λ c κs. search needs)
     each-share-requires
-    (λ c κs. search needs)
-    (λ c κs. search needs)
     and-block-requires
     each-share-requires-2
     each-share-requires-3
-    (λ c κs. search needs)
     each-share-requires-4
     sub-round-step
     sub-round-step-2

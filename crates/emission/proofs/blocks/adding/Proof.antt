@@ -11,7 +11,7 @@ use Rattle.emission.proofs.blocks.adding.Statement.{statement}
 use Rattle.emission.proofs.blocks.adding.Tie as tie
 
 abbrev Inv-loop : tie.InvT-loop
-Inv-loop d a b n at out₀ at₀ k₀ out at' k = (k ≤ 33) × Left out₀ at₀ (blocks scratch n (adding d a b)) out at' (blocks scratch n (drop k (adding d a b))) × (at₀ ≡ at)
+Inv-loop d a b n at out₀ at₀ k₀ out at' k = (k ≤ 33) × Left out₀ at₀ (blocks scratch n (adding (d .first) (a .first) (b .first))) out at' (blocks scratch n (drop k (adding (d .first) (a .first) (b .first)))) × (at₀ ≡ at)
 
 abbrev μ-loop : tie.MeasureT-loop
 μ-loop d a b n at out₀ at₀ k₀ out at' k = 33 - k
@@ -23,15 +23,15 @@ adder-step-requires : tie.Need-adder-step-requires Inv-loop μ-loop
 adder-step-requires c κs =
     let a = c .before .before .before .before .args in
     let k = c .before .before .loop .k in
-    let l = renamed _ _ _ (adder-next (a .d) (a .a) (a .b) (a .n) k (omega arith)) (c .before .before .loop .inv .1) in
-    (c .before .before .before .before .pre .0, (omega arith, (c .before .before .before .before .pre .1 .0, room (block scratch (a .n) (adderStep (a .d) (a .a) (a .b) k)) _ l (c .before .before .before .before .pre .1 .1))))
+    let l = renamed _ _ _ (adder-next (a .d .first) (a .a .first) (a .b .first) (a .n) k (omega arith)) (c .before .before .loop .inv .1) in
+    (c .before .before .before .before .pre .0, (omega arith, (c .before .before .before .before .pre .1 .0, room (block scratch (a .n) (adderStep (a .d .first) (a .a .first) (a .b .first) k)) _ l (c .before .before .before .before .pre .1 .1))))
 
 loop-again : tie.Need-loop-again Inv-loop μ-loop
 loop-again c =
     let a = c .before .before .before .before .before .before .before .args in
     let k = c .before .before .before .before .before .loop .k in
-    let l = renamed _ _ _ (adder-next (a .d) (a .a) (a .b) (a .n) k (omega arith)) (c .before .before .before .before .before .loop .inv .1) in
-    (omega arith, part (block scratch (a .n) (adderStep (a .d) (a .a) (a .b) k)) _ l (c .before .before .adder-step .ensures), refl)
+    let l = renamed _ _ _ (adder-next (a .d .first) (a .a .first) (a .b .first) (a .n) k (omega arith)) (c .before .before .before .before .before .loop .inv .1) in
+    (omega arith, part (block scratch (a .n) (adderStep (a .d .first) (a .a .first) (a .b .first) k)) _ l (c .before .before .adder-step .ensures), refl)
 
 same-length : tie.Need-same-length Inv-loop μ-loop
 same-length c = c .before .loop .inv .1 .long
@@ -39,7 +39,7 @@ same-length c = c .before .loop .inv .1 .long
 returns : tie.Need-returns Inv-loop μ-loop
 returns c =
     let a = c .before .before .before .args in
-    whole (renamed _ _ _ (ap (blocks scratch (a .n)) (drop-of-length-le (adding (a .d) (a .a) (a .b)) {i = c .before .loop .k} (omega (arith, adding-length (a .d) (a .a) (a .b), c .loop-test .left)))) (c .before .loop .inv .1))
+    whole (renamed _ _ _ (ap (blocks scratch (a .n)) (drop-of-length-le (adding (a .d .first) (a .a .first) (a .b .first)) {i = c .before .loop .k} (omega (arith, adding-length (a .d .first) (a .a .first) (a .b .first), c .loop-test .left)))) (c .before .loop .inv .1))
 
 pub adding-spec : {M : Type 1} → statement M
 adding-spec =

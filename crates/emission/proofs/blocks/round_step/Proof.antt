@@ -1,12 +1,12 @@
 -- `emission::blocks::round_step` meets its contract.
-use mathlib.Core.Path.{_≡_, ap, _∙_}
+use mathlib.Core.Path.{_≡_, refl, ap, _∙_}
 use Prim.Native.Nat.{ℕ, _*_, _%_, _^_, _<_}
 use native.Mathlib.Nat.{mod-eq-of-lt}
 use native.Mathlib.Omega.{arith}
 use lib.Pow.{pow-lt}
 use borrow.Author.Tests.{ne-eqb}
 use borrow.Author.Needs.{needs}
-use Rattle.emission.proofs.Laid.{for-fits, fixed-fits, room-each, room-and, as-xor, as-shl, as-and}
+use Rattle.emission.proofs.Laid.{for-fits, fixed, fixed-fits, room-each, room-and, as-xor, as-shl, as-and}
 use Rattle.emission.proofs.blocks.round_step.Statement.{statement}
 use Rattle.emission.proofs.blocks.round_step.Tie as tie
 
@@ -29,7 +29,7 @@ each-share-requires c κs =
 
 and-block-requires : tie.Need-and-block-requires
 and-block-requires c κs =
-    ((for-fits 35 (omega arith), for-fits 34 (omega arith), for-fits 35 (omega arith)), (c .before .before .before .pre .1 .0, room-and 35 34 35 (c .before .before .before .args .n) (rw (c .before .match .keys2) at (c .before .before .before .pre .1 .1))))
+    ((for-fits 35 (omega arith), for-fits 34 (omega arith), for-fits 35 (omega arith)), (c .before .before .before .pre .1 .0, room-and 35 34 35 (c .before .before .before .args .n) refl refl refl (rw (c .before .match .keys2) at (c .before .before .before .pre .1 .1))))
 
 each-share-requires-2 : tie.Need-each-share-requires-2
 each-share-requires-2 c κs =
@@ -43,24 +43,24 @@ each-share-requires-3 c κs =
 and-block-requires-2 : tie.Need-and-block-requires-2
 and-block-requires-2 c κs =
     let r = c .before .match .rest in
-    ((for-fits 34 (omega arith), for-fits 34 (omega arith), for-fits 35 (omega arith)), (c .before .before .before .pre .1 .0, room-and 34 34 35 (c .before .before .before .args .n) (rw (ne-eqb _ _ (r .0 .0 .0 .1), ne-eqb _ _ (r .0 .0 .1), ne-eqb _ _ (r .0 .1), ne-eqb _ _ (r .1)) at (c .before .before .before .pre .1 .1))))
+    ((for-fits 34 (omega arith), for-fits 34 (omega arith), for-fits 35 (omega arith)), (c .before .before .before .pre .1 .0, room-and 34 34 35 (c .before .before .before .args .n) refl refl refl (rw (ne-eqb _ _ (r .0 .0 .0 .1), ne-eqb _ _ (r .0 .0 .1), ne-eqb _ _ (r .0 .1), ne-eqb _ _ (r .1)) at (c .before .before .before .pre .1 .1))))
 
 returns : tie.Need-returns
-returns c = rw (c .before .before .before .before .match .keys1) (as-shl 35 33 _ (c .before .before .before .before .before .before .args .n) (rw (shift-is (c .before .before .before .before .before .before .args .r) (c .before .before .before .before .before .before .pre .0)) at (c .before .before .each-share .ensures)))
+returns c = rw (c .before .before .before .before .match .keys1) (as-shl 35 33 (2 ^ c .before .before .before .before .before .before .args .r) (c .before .before .before .before .before .before .args .n) refl refl (ap fixed (shift-is (c .before .before .before .before .before .before .args .r) (c .before .before .before .before .before .before .pre .0))) (c .before .before .each-share .ensures))
 
 returns-2 : tie.Need-returns-2
-returns-2 c = rw (c .before .before .before .before .match .keys2) (as-and 35 34 35 (c .before .before .before .before .before .before .args .n) (c .before .before .and-block .ensures))
+returns-2 c = rw (c .before .before .before .before .match .keys2) (as-and 35 34 35 (c .before .before .before .before .before .before .args .n) refl refl refl (c .before .before .and-block .ensures))
 
 returns-3 : tie.Need-returns-3
-returns-3 c = rw (c .before .before .before .before .match .keys3) (as-xor 33 33 35 (c .before .before .before .before .before .before .args .n) (c .before .before .each-share2 .ensures))
+returns-3 c = rw (c .before .before .before .before .match .keys3) (as-xor 33 33 35 (c .before .before .before .before .before .before .args .n) refl refl refl (c .before .before .each-share2 .ensures))
 
 returns-4 : tie.Need-returns-4
-returns-4 c = rw (c .before .before .before .before .match .keys4) (as-shl 35 34 _ (c .before .before .before .before .before .before .args .n) (rw (shift-is (c .before .before .before .before .before .before .args .r) (c .before .before .before .before .before .before .pre .0)) at (c .before .before .each-share3 .ensures)))
+returns-4 c = rw (c .before .before .before .before .match .keys4) (as-shl 35 34 (2 ^ c .before .before .before .before .before .before .args .r) (c .before .before .before .before .before .before .args .n) refl refl (ap fixed (shift-is (c .before .before .before .before .before .before .args .r) (c .before .before .before .before .before .before .pre .0))) (c .before .before .each-share3 .ensures))
 
 returns-5 : tie.Need-returns-5
 returns-5 c =
     let r = c .before .before .before .before .match .rest in
-    rw (ne-eqb _ _ (r .0 .0 .0 .1), ne-eqb _ _ (r .0 .0 .1), ne-eqb _ _ (r .0 .1), ne-eqb _ _ (r .1)) (as-and 34 34 35 (c .before .before .before .before .before .before .args .n) (c .before .before .and-block2 .ensures))
+    rw (ne-eqb _ _ (r .0 .0 .0 .1), ne-eqb _ _ (r .0 .0 .1), ne-eqb _ _ (r .0 .1), ne-eqb _ _ (r .1)) (as-and 34 34 35 (c .before .before .before .before .before .before .args .n) refl refl refl (c .before .before .and-block2 .ensures))
 
 pub round-step-spec : {M : Type 1} → statement M
 round-step-spec =

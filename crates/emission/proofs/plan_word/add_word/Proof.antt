@@ -1,7 +1,9 @@
 -- `emission::plan_word::add_word` meets its contract.
+use mathlib.Core.Path.{refl, ap, _∙_}
 use Prim.Native.Nat.{_^_, _<_}
 use native.Mathlib.Omega.{arith}
 use borrow.Author.Needs.{needs}
+use Rattle.word.specs.Encoding.{fieldD, fieldA, fieldB}
 use Rattle.emission.proofs.Parts.{words-room, as-words}
 use Rattle.emission.proofs.Straight.{fields-of, add-words}
 use Rattle.emission.proofs.plan_word.add_word.Statement.{statement}
@@ -13,8 +15,10 @@ adding-requires c κs =
     let n = c .before .before .before .before .before .before .args .n in
     let lt : w < 2 ^ 32 = omega (arith, c .before .before .before .before .before .before .good) in
     let f = fields-of w lt (c .before .before .before .before .before .before .pre .0) .1 (c .before .before .before .before .before .before .pre .1 .0) in
-    rw (c .before .before .before .d .ensures, c .before .before .a .ensures, c .before .b .ensures, c .before .before .before .before .of .ensures)
-    ((f .d, f .a, f .b), (c .before .before .before .before .before .before .pre .1 .1 .0, words-room _ (add-words n w (c .before .before .before .before .before .before .pre .0) f) (c .before .before .before .before .before .before .pre .1 .1 .1)))
+    let x = c .before .before .before .d .ensures ∙ ap fieldD (c .before .before .before .before .of .ensures) in
+    let y = c .before .before .a .ensures ∙ ap fieldA (c .before .before .before .before .of .ensures) in
+    let z = c .before .b .ensures ∙ ap fieldB (c .before .before .before .before .of .ensures) in
+    (rw (x, y, z) (record { low = f .d; share = refl }, record { low = f .a; share = refl }, record { low = f .b; share = refl }), (c .before .before .before .before .before .before .pre .1 .1 .0, rw (x, y, z) (words-room _ (add-words n w (c .before .before .before .before .before .before .pre .0) f) (c .before .before .before .before .before .before .pre .1 .1 .1))))
 
 returns : tie.Need-returns
 returns c =
