@@ -8,8 +8,7 @@ use lib.ListN.{length}
 use lib.Seq.{sets}
 use Rattle.word.specs.declared.step.Step.{Step}
 use Rattle.word.specs.declared.step.Step.the-variants.{Xor, And, Shl}
-use Rattle.word.specs.declared.step.Decoded.the-variants.{Good}
-use Rattle.word.specs.Encoding.{put, planStep, wordOf}
+use Rattle.word.specs.Encoding.{put, wordOf}
 use Rattle.masking.specs.Translation.{upFrom, Pair, refresh, products, scratch, rH, rG, rP, rT}
 use Rattle.emission.specs.declared.emit.Cells.{Cells}
 use Rattle.emission.specs.declared.pairs.EachPair.{EachPair}
@@ -79,11 +78,6 @@ pairSteps (Products a) ps = products scratch (cellsOn a) ps
 abbrev pub PairFits : EachPair → Type 0
 PairFits Refresh = Unit {0}
 PairFits (Products a) = Fits a
-
--- a good word of a plan, and its step
-pub record PlanWord (w : ℕ) : Type 0 where
-  pub step : Step
-  pub apart : planStep w ≡ Good step
 
 -- ADD's steps by their numbers: step j of the round of shift 2^r, and step k of all 33
 abbrev pub roundStep : ℕ → ℕ → Step

@@ -21,7 +21,8 @@ pub fn put_word(w: u32, at: usize, out: &mut [u32]) -> usize
     at + 1
 }
 
-// Writes n words in a row.
+// Writes n words in a row, two a turn: where the compiler knows that n is at most 8, a loop of one word becomes one of masked vectors, which
+// takes more.
 pub fn row(first: u32, over: u32, n: u8, at: usize, out: &mut [u32]) -> usize
     requires { ⌜ Rises first over n ⌝ }
     requires { ⌜ at + n ≤ length (now out) ⌝ }
@@ -29,11 +30,15 @@ pub fn row(first: u32, over: u32, n: u8, at: usize, out: &mut [u32]) -> usize
 {
     let mut at = at;
     let mut w = first;
-    for i in 0..n {
+    for i in 0..n / 2 {
         at = put_word(w, at, out);
-        w += over;
+        at = put_word(w + over, at, out);
+        w += over + over;
     }
-    at
+    if n % 2 == 0 {
+        return at;
+    }
+    put_word(w, at, out)
 }
 
 // Writes share 0's word, and the others' in a row.

@@ -1,6 +1,5 @@
-// The share words of a plan's word: what is written once per share (emit), for pairs of shares (pairs), AND and ADD (blocks), and the
-// whole (plan_word). An inner crate of Translate: its functions ask for room and registers in range.
+// Share words by templates: what is written once per share (emit), for pairs of shares (pairs), and AND and ADD (blocks). An inner crate of
+// Translate: its functions ask for room and for cells in range.
 pub mod blocks;
 pub mod emit;
 pub mod pairs;
-pub mod plan_word;

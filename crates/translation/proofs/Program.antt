@@ -9,7 +9,7 @@ use lib.ListN.{length, drop, getD, length-append, drop-of-length-le}
 use lib.Seq.{sets, sets-eq, length-sets, drop-cons}
 use Rattle.word.specs.Encoding.{planStep}
 use Rattle.masking.specs.Translation.{wordsFor, program}
-use Rattle.emission.specs.Written as emission
+use Rattle.translation.specs.Inner as inner
 use Rattle.masking.specs.Foretold.{Accepted, foretoldWords}
 use Rattle.masking.proofs.emitted.Counts.{plan-counts}
 use Rattle.masking.proofs.emitted.Steps.{PlanWord, PlanWords, plan-words}
@@ -30,7 +30,7 @@ plan-word (w ∷ ws) (suc i) h l = plan-word ws i (h .1) (omega arith)
 
 module _ (n : ℕ) (plan : List ℕ) (A : Accepted n plan) where
   -- each is good
-  pub word-good : (i : ℕ) → i < length plan → emission.PlanWord (getD plan i 0)
+  pub word-good : (i : ℕ) → i < length plan → inner.PlanWord (getD plan i 0)
   word-good i l =
       let p = plan-word plan i (plan-words plan (A .good)) l in
       record { step = p .step; apart = p .apart }

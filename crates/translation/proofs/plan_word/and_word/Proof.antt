@@ -1,14 +1,14 @@
--- `emission::plan_word::and_word` meets its contract.
+-- `translation::plan_word::and_word` meets its contract.
 use mathlib.Core.Path.{refl, ap, _∙_}
 use Prim.Native.Nat.{_^_, _<_}
 use native.Mathlib.Omega.{arith}
 use borrow.Author.Needs.{needs}
 use Rattle.word.specs.Encoding.{fieldD, fieldA, fieldB}
 use Rattle.emission.proofs.Parts.{words-room, as-words}
 use Rattle.emission.proofs.Laid.{register-on, fits-for, room-and, as-and}
-use Rattle.emission.proofs.Straight.{fields-of, and-words}
-use Rattle.emission.proofs.plan_word.and_word.Statement.{statement}
-use Rattle.emission.proofs.plan_word.and_word.Tie as tie
+use Rattle.translation.proofs.Straight.{fields-of, and-words}
+use Rattle.translation.proofs.plan_word.and_word.Statement.{statement}
+use Rattle.translation.proofs.plan_word.and_word.Tie as tie
 
 and-block-requires : tie.Need-and-block-requires
 and-block-requires c κs =

@@ -4,12 +4,13 @@ ghost use mathlib.Core.Path.{_≡_};
 ghost use lib.ListN.{length};
 ghost use Rattle.word.specs.Encoding.{kindOf, planStep};
 ghost use Rattle.masking.specs.Translation.{wordsFor};
-ghost use Rattle.emission.specs.Written.{PlanWord, Words};
-use crate::blocks::adding;
-use crate::blocks::and_block;
-use crate::emit::Cells;
-use crate::emit::alone;
-use crate::emit::row;
+ghost use Rattle.emission.specs.Written.{Words};
+ghost use Rattle.translation.specs.Inner.{PlanWord};
+use emission::blocks::adding;
+use emission::blocks::and_block;
+use emission::emit::Cells;
+use emission::emit::alone;
+use emission::emit::row;
 use word::step_word::StepWord;
 
 // The cells from a register's share to the next one.

@@ -20,10 +20,11 @@ use Rattle.word.proofs.Together.{never, same-step, plan-exact, taken-rule}
 use Rattle.masking.specs.Translation.{scratch, upFrom, shareCell, shareStep, block, blocks, adding, laidOut, translated, wordsFor}
 use Rattle.masking.proofs.emitted.Places.{share-register}
 use Rattle.masking.proofs.emitted.Steps.{taken-kind}
 use Rattle.emission.specs.declared.emit.Cells.{Cells}
-use Rattle.emission.specs.Written.{PlanWord, rowOf, cellsOn, Fits, EachFits}
+use Rattle.translation.specs.Inner.{PlanWord}
+use Rattle.emission.specs.Written.{rowOf, cellsOn, Fits, EachFits}
 use Rattle.emission.proofs.Rows.{row-length, each-row}
 use Rattle.emission.proofs.Laid.{fixed, fixed-fits, stays}
 
 -- ---- a good word and its step
 

@@ -1,11 +1,11 @@
--- `emission::plan_word::plan_word` meets its contract.
+-- `translation::plan_word::plan_word` meets its contract.
 use Prim.Native.Nat.{_^_, _<_}
 use native.Mathlib.Omega.{arith}
 use borrow.Author.Tests.{ne-eqb}
 use borrow.Author.Needs.{needs}
-use Rattle.emission.proofs.Straight.{linear-words, linear-length, row-words, low}
-use Rattle.emission.proofs.plan_word.plan_word.Statement.{statement}
-use Rattle.emission.proofs.plan_word.plan_word.Tie as tie
+use Rattle.translation.proofs.Straight.{linear-words, linear-length, row-words, low}
+use Rattle.translation.proofs.plan_word.plan_word.Statement.{statement}
+use Rattle.translation.proofs.plan_word.plan_word.Tie as tie
 
 alone-requires : tie.Need-alone-requires
 alone-requires c κs =

@@ -1,13 +1,13 @@
--- `emission::plan_word::add_word` meets its contract.
+-- `translation::plan_word::add_word` meets its contract.
 use mathlib.Core.Path.{refl, ap, _∙_}
 use Prim.Native.Nat.{_^_, _<_}
 use native.Mathlib.Omega.{arith}
 use borrow.Author.Needs.{needs}
 use Rattle.word.specs.Encoding.{fieldD, fieldA, fieldB}
 use Rattle.emission.proofs.Parts.{words-room, as-words}
-use Rattle.emission.proofs.Straight.{fields-of, add-words}
-use Rattle.emission.proofs.plan_word.add_word.Statement.{statement}
-use Rattle.emission.proofs.plan_word.add_word.Tie as tie
+use Rattle.translation.proofs.Straight.{fields-of, add-words}
+use Rattle.translation.proofs.plan_word.add_word.Statement.{statement}
+use Rattle.translation.proofs.plan_word.add_word.Tie as tie
 
 adding-requires : tie.Need-adding-requires
 adding-requires c κs =
