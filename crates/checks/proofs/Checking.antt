@@ -38,14 +38,14 @@ module _ (step : ℕ → Decoded) (l : List ℕ) (i : ℕ) where
   Passed = firstBad step l ≡ i + firstBad step (drop i l)
 
   -- a good word is passed
-  pub passed-one : Passed → i < length l → {s : Step} → step (getD l i 0) ≡ Good s → firstBad step l ≡ i + 1 + firstBad step (drop (i + 1) l)
+  passed-one : Passed → i < length l → {s : Step} → step (getD l i 0) ≡ Good s → firstBad step l ≡ i + 1 + firstBad step (drop (i + 1) l)
   passed-one h lt {s} e =
       h ∙ ap (λ (r : List ℕ). i + firstBad step r) (drop-cons l i 0 lt)
       ∙ ap (λ (d : Decoded). i + firstOf d (firstBad step (drop (suc i) l))) e
       ∙ ap (λ (k : ℕ). i + suc (firstBad step (drop k l))) (sym (add-one i)) ∙ omega arith
 
   -- the search ends at a bad word
-  pub at-bad : Passed → i < length l → step (getD l i 0) ≡ Bad → i ≡ firstBad step l
+  at-bad : Passed → i < length l → step (getD l i 0) ≡ Bad → i ≡ firstBad step l
   at-bad h lt e =
       sym (h ∙ ap (λ (r : List ℕ). i + firstBad step r) (drop-cons l i 0 lt) ∙ ap (λ (d : Decoded). i + firstOf d (firstBad step (drop (suc i) l))) e ∙ add-zero i)
 

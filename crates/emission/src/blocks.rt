@@ -14,22 +14,22 @@ use word::step_word::StepWord;
 // The cells of ADD's helper registers, and of AND's scratch.
 const H: Cells = Cells {
     first: StepWord::HELPERS,
-    over: 8,
+    over: StepWord::HELPER_SHARE,
 };
 
 const G: Cells = Cells {
     first: StepWord::HELPERS + 1,
-    over: 8,
+    over: StepWord::HELPER_SHARE,
 };
 
 const P: Cells = Cells {
     first: StepWord::HELPERS + 2,
-    over: 8,
+    over: StepWord::HELPER_SHARE,
 };
 
 const T: Cells = Cells {
     first: StepWord::HELPERS + 3,
-    over: 8,
+    over: StepWord::HELPER_SHARE,
 };
 
 const Y: Cells = Cells {

@@ -13,15 +13,12 @@ use emission::emit::alone;
 use emission::emit::row;
 use word::step_word::StepWord;
 
-// The cells from a register's share to the next one.
-const SHARE: u16 = StepWord::REGISTERS as u16;
+// What the next share's word is more: a share's cells in field d, in d and a, and in all three.
+const D: u32 = (StepWord::SHARE as u32) * StepWord::NUMBERS;
 
-// From share to share: 32 cells on in field d, in d and a, and in all three.
-const D: u32 = 32 * StepWord::NUMBERS;
+const DA: u32 = D + (StepWord::SHARE as u32) * StepWord::FIELD;
 
-const DA: u32 = D + 32 * StepWord::FIELD;
-
-const DAB: u32 = DA + 32;
+const DAB: u32 = DA + (StepWord::SHARE as u32);
 
 // AND's words.
 fn and_word(n: u8, w: u32, out: &mut [u32]) -> usize
@@ -34,15 +31,15 @@ fn and_word(n: u8, w: u32, out: &mut [u32]) -> usize
     let word = StepWord::of(w);
     let d = Cells {
         first: word.d(),
-        over: SHARE,
+        over: StepWord::SHARE,
     };
     let a = Cells {
         first: word.a(),
-        over: SHARE,
+        over: StepWord::SHARE,
     };
     let b = Cells {
         first: word.b(),
-        over: SHARE,
+        over: StepWord::SHARE,
     };
     and_block(d, a, b, n, 0, out)
 }
@@ -58,15 +55,15 @@ fn add_word(n: u8, w: u32, out: &mut [u32]) -> usize
     let word = StepWord::of(w);
     let d = Cells {
         first: word.d(),
-        over: SHARE,
+        over: StepWord::SHARE,
     };
     let a = Cells {
         first: word.a(),
-        over: SHARE,
+        over: StepWord::SHARE,
     };
     let b = Cells {
         first: word.b(),
-        over: SHARE,
+        over: StepWord::SHARE,
     };
     adding(d, a, b, n, 0, out)
 }

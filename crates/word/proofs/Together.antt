@@ -17,11 +17,6 @@ use Rattle.word.specs.Encoding.{kindOf, bit27, fieldD, fieldA, fieldB, e
 use Rattle.word.proofs.Ranges.{both, within-cells, within-number, within-more}
 use Rattle.word.specs.Parts.{OfParts, OfNone, Exact, WordsExact}
 
--- a field keeps nine bits
-pub put-fields : (k d a b : ℕ) → put k d (a % 512) (b % 512) ≡ put k d a b
-unfolding put
-put-fields k d a b = simp mod-mod
-
 -- the fields of a word that was put together
 module _ (k d a b : ℕ) where
   put-kind : kindOf (put k d a b) ≡ k % 16

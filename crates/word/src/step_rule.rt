@@ -75,6 +75,21 @@ pub fn within(cells: u16, s: Step) -> bool
     }
 }
 
+// Whether two fields are registers and the rest holds too.
+pub fn registers(d: u32, a: u32, rest: bool) -> bool
+    ensures { λ r. ⌜ r ≡ (ltb d 32 && (ltb a 32 && rest)) ⌝ }
+{
+    if d < StepWord::PLAN_CELLS {
+        if a < StepWord::PLAN_CELLS {
+            rest
+        } else {
+            false
+        }
+    } else {
+        false
+    }
+}
+
 // A word from its kind, kept to four bits, and its fields, kept to nine.
 pub fn put(k: u32, d: u16, a: u16, b: u16) -> u32
     ensures { λ r. ⌜ r ≡ spec.put k d a b ⌝ }

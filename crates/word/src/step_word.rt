@@ -1,12 +1,11 @@
-// The step word's own type: its bit places, the cells and limits that go with it, and taking it apart and putting it together.
+// The step word's own type: its bit places, the cells and limits that go with it, and taking it apart.
 ghost use mathlib.Core.Path.{_≡_};
 ghost use Rattle.word.specs.Encoding as spec;
-ghost use Rattle.word.specs.Encoding.{kindOf, bit27, fieldD, fieldA, fieldB, isGood, planStep, ruleFor, programStep, wordOf};
+ghost use Rattle.word.specs.Encoding.{kindOf, bit27, fieldD, fieldA, fieldB, isGood, planStep, ruleFor, programStep};
 ghost use Rattle.word.specs.Layout as layout;
 use crate::step::Decoded;
-use crate::step::Step;
 use crate::step_rule::allowed;
-use crate::step_rule::put;
+use crate::step_rule::registers;
 use crate::step_rule::row;
 
 pub struct StepWord {
@@ -67,6 +66,14 @@ impl StepWord {
     pub const REGISTERS: usize = 32;
 
     pub const CELLS: usize = 512;
+
+    // A plan's cells are its registers.
+    pub const PLAN_CELLS: u32 = StepWord::REGISTERS as u32;
+
+    // From share to share: the cells on of a register, and of a helper register of ADD.
+    pub const SHARE: u16 = StepWord::REGISTERS as u16;
+
+    pub const HELPER_SHARE: u16 = 8;
 
     // The scratch cells of AND: y and z have one for each share.
     pub const Y: u16 = 256;
@@ -176,54 +183,36 @@ impl StepWord {
         }
     }
 
-    // The word of a step, each field kept to its nine bits.
-    pub fn of_step(s: Step) -> StepWord
-        ensures { λ r. ⌜ r .bits ≡ wordOf s ⌝ }
+    // Whether a plan's word is good, likewise.
+    pub fn is_plan_word(self) -> bool
+        ensures { λ r. ⌜ r ≡ isGood (planStep (self .bits)) ⌝ }
     {
-        let bits = match s {
-            Step::Const { d, k } => put(
-                StepWord::CONST,
-                d,
-                ((k / StepWord::FIELD) % StepWord::FIELD) as u16,
-                (k % StepWord::FIELD) as u16,
-            ),
-            Step::Xor { d, a, b } => put(StepWord::XOR, d, a, b),
-            Step::And { d, a, b } => put(StepWord::AND, d, a, b),
-            Step::Not { d, a } => put(StepWord::NOT, d, a, 0),
-            Step::Shl { d, a, b } => put(StepWord::SHL, d, a, b),
-            Step::Shr { d, a, b } => put(StepWord::SHR, d, a, b),
-            Step::Spread { d, a } => put(StepWord::SPREAD, d, a, 0),
-            Step::Add { d, a, b } => put(StepWord::ADD, d, a, b),
-            Step::Rand { d } => put(StepWord::RAND, d, 0, 0),
-        };
-        StepWord { bits }
+        let w = self.bits;
+        if (w >> StepWord::ZERO_AT) % 2 != 0 {
+            return false;
+        }
+        let d = (w >> StepWord::D_AT) % StepWord::FIELD;
+        let a = (w >> StepWord::A_AT) % StepWord::FIELD;
+        let b = w % StepWord::FIELD;
+        let kind = w >> StepWord::KIND_AT;
+        match kind {
+            StepWord::CONST => d < StepWord::PLAN_CELLS,
+            StepWord::XOR => registers(d, a, b < StepWord::PLAN_CELLS),
+            StepWord::AND => registers(d, a, b < StepWord::PLAN_CELLS),
+            StepWord::NOT => registers(d, a, b == 0),
+            StepWord::SHL => registers(d, a, b < StepWord::SHIFTS),
+            StepWord::SHR => registers(d, a, b < StepWord::SHIFTS),
+            StepWord::SPREAD => registers(d, a, b == 0),
+            StepWord::ADD => registers(d, a, b < StepWord::PLAN_CELLS),
+            _ => false,
+        }
     }
 
     // Share i of register r.
     pub fn cell(i: u8, r: u8) -> u16
         ensures { λ c. ⌜ c ≡ layout.cell i r ⌝ }
     {
-        32 * (i as u16) + (r as u16)
-    }
-
-    // Share i of helper register h.
-    pub fn helper(i: u8, h: u8) -> u16
-        ensures { λ c. ⌜ c ≡ layout.helper i h ⌝ }
-    {
-        StepWord::HELPERS + 8 * (i as u16) + (h as u16)
-    }
-
-    // Scratch cells y_i and z_i.
-    pub fn y(i: u8) -> u16
-        ensures { λ c. ⌜ c ≡ layout.cellY i ⌝ }
-    {
-        StepWord::Y + (i as u16)
-    }
-
-    pub fn z(i: u8) -> u16
-        ensures { λ c. ⌜ c ≡ layout.cellZ i ⌝ }
-    {
-        StepWord::Z + (i as u16)
+        StepWord::SHARE * (i as u16) + (r as u16)
     }
 
     // Share words that a plan word of this kind translates to for n shares.
