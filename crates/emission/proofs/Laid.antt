@@ -21,7 +21,7 @@ use Rattle.masking.proofs.emitted.Wiping.{wiping-shares}
 use Rattle.emission.specs.declared.emit.Cells.{Cells}
 use Rattle.emission.specs.declared.pairs.EachPair.the-variants.{Refresh, Products}
 use Rattle.emission.proofs.Parts.{as-steps}
-use Rattle.emission.specs.Written.{Words, Emits, Room, Fits, Register, cellsOn, cellsFor, eachFrom, eachWord, pairSteps, adderStep}
+use Rattle.emission.specs.Written.{Words, Emits, Room, Fits, Register, cellsOn, cellsFor, eachWord, pairSteps, adderStep}
 
 -- ---- AND
 
@@ -71,7 +71,7 @@ row-fits c l = record { field = omega arith }
 pub fixed-fits : (k : ℕ) → k < 512 → Fits (fixed k)
 fixed-fits k l = record { field = omega arith }
 
-pub words-each : (g : ℕ → Step) (h : ℕ → ℕ) → ((i : ℕ) → wordOf (g i) ≡ h i) → (s c : ℕ) → map wordOf (map g (upFrom s c)) ≡ map h (upFrom s c)
+words-each : (g : ℕ → Step) (h : ℕ → ℕ) → ((i : ℕ) → wordOf (g i) ≡ h i) → (s c : ℕ) → map wordOf (map g (upFrom s c)) ≡ map h (upFrom s c)
 words-each g h e s zero = refl
 words-each g h e s (suc c) = rw (e s) (ap (λ (r : List ℕ). h s ∷ r) (words-each g h e (suc s) c))
 
@@ -96,7 +96,7 @@ module _ {out : List ℕ} {at : ℕ} {after : List ℕ} {next : ℕ} where
 
 -- ---- steps on registers
 
-pub cell-on : (r i : ℕ) → shareCell i r ≡ cellsOn (cellsFor r) i
+cell-on : (r i : ℕ) → shareCell i r ≡ cellsOn (cellsFor r) i
 cell-on r i =
     ⊎-elim (λ (p : (r < 32) × (shareCell i r ≡ 32 * i + r)). rw (lt-ltb r 32 (p .0)) (omega arith))
     (λ (p : (32 ≤ r) × (shareCell i r ≡ 256 + 8 * i + r)). rw (le-ltb r 32 (p .0)) (omega arith)) (share-cases i r)

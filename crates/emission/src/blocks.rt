@@ -81,7 +81,7 @@ fn wiping(n: u8, at: usize, out: &mut [u32]) -> usize
     put_word(WIPE_U, at, out)
 }
 
-// AND's share words; d may be a or b, for it is written last.
+// AND's share words: its steps, then the wiping.
 pub fn and_block(d: Cells, a: Cells, b: Cells, n: u8, at: usize, out: &mut [u32]) -> usize
     requires { ⌜ (Fits d) × (Fits a) × (Fits b) ⌝ }
     requires { ⌜ n ≤ 8 ⌝ }

@@ -1,5 +1,4 @@
 // What is written once per share, by templates: of the n words in a row each is the last one and the same number more.
-ghost use mathlib.Core.Path.{_≡_};
 ghost use mathlib.Core.List.{[], _∷_};
 ghost use Prim.Native.Nat.{_+_, _-_, _≤_, _<_};
 ghost use lib.ListN.{length};

@@ -11,7 +11,6 @@ use lib.Dec.{T, eqb, ltb, ltb→lt}
 use lib.ListN.{length}
 use Rattle.word.specs.declared.step.Step.{Step}
 use Rattle.word.specs.declared.step.Step.the-variants.{Const, Xor, And, Not, Shl, Shr, Spread, Add, Rand}
-use Rattle.word.specs.declared.step.Decoded.the-variants.{Good}
 use Rattle.word.specs.Encoding.{kindOf, fieldD, fieldA, fieldB, kindNumber, numberFits, within, inPlan, planStep, put, wordOf}
 use Rattle.word.specs.Parts.{OfParts, OfNone}
 use Rattle.word.specs.Table.{dest, reads, Each}
@@ -34,7 +33,7 @@ module _ (w : ℕ) (lt : w < 2 ^ 32) (p : PlanWord w) where
       ⊎-elim (λ (q : OfParts inPlan w). ap wordOf (same-step (p .step) (q .step) (sym (p .apart) ∙ q .apart)) ∙ q .together)
       (λ (q : OfNone inPlan w). never (p .step) (sym (q .apart) ∙ p .apart)) (plan-exact .every w lt)
 
-pub kind-is : (w : ℕ) (p : PlanWord w) → kindOf w ≡ kindNumber (p .step)
+kind-is : (w : ℕ) (p : PlanWord w) → kindOf w ≡ kindNumber (p .step)
 kind-is w p = taken-kind inPlan w (p .step) (p .apart)
 
 pub in-plan : (w : ℕ) (p : PlanWord w) → T (inPlan (p .step))
@@ -49,7 +48,7 @@ number-lt s b h e =
     let l : b < 64 = ltb→lt b 64 (rw e at (within-number 32 s (both (not (eqb (kindNumber s) 9)) (within 32 s) h .1))) in
     omega arith
 
-pub step-words : (n w : ℕ) (p : PlanWord w) → wordsFor n (planStep w) ≡ map wordOf (blocks scratch n (laidOut (p .step)))
+step-words : (n w : ℕ) (p : PlanWord w) → wordsFor n (planStep w) ≡ map wordOf (blocks scratch n (laidOut (p .step)))
 unfolding translated
 step-words n w p = ap (wordsFor n) (p .apart)
 

@@ -2,7 +2,6 @@
 use mathlib.Core.Path.{_≡_, refl}
 use Prim.Native.Nat.{_+_, _-_, _*_, _/_, _≤_, _<_}
 use native.Mathlib.Omega.{arith}
-use borrow.Author.Needs.{needs}
 use Rattle.emission.proofs.Rows.{Along, along, along-next, along-end}
 use Rattle.emission.proofs.emit.row.Statement.{statement}
 use Rattle.emission.proofs.emit.row.Tie as tie

@@ -2,7 +2,6 @@
 use mathlib.Core.Path.{_≡_}
 use Prim.Native.Nat.{ℕ, _+_, _*_, _<_}
 use native.Mathlib.Omega.{arith}
-use borrow.Author.Needs.{needs}
 use Rattle.word.specs.Encoding.{put}
 use Rattle.emission.specs.Written.{cellsOn}
 use Rattle.emission.proofs.Rows.{on-lt}
