@@ -14,10 +14,10 @@ use Rattle.masking.specs.Machine.{stepsOf}
 use Rattle.gadgets.specs.declared.once.Place.{Place}
 use Rattle.gadgets.specs.declared.once.Op.{Op}
 use Rattle.gadgets.specs.declared.once.Op.the-variants as op
-use Rattle.gadgets.specs.Effects.{Enough, InCells, Ran, Register, Shifts, Still, at, onceStep}
+use Rattle.gadgets.specs.Effects.{Enough, InCells, Ran, Register, Shifts, Still, at, onceStep, placed}
 use Rattle.blocks.specs.PlanWords.{GoodPlanWord, OfPlan}
 use Rattle.gadgets.proofs.Running.{ran-as}
-use Rattle.blocks.proofs.Named.{Named, of-plan, plan-register-named, once-ran, and-ran, and-enough}
+use Rattle.blocks.proofs.Named.{Named, of-plan, plan-register-named, plan-placed, once-ran, and-ran, and-enough}
 use Rattle.blocks.proofs.Words.{Word, registers, fits, is-const, is-xor, is-and, is-not, is-shl, is-shr, is-spread, is-add, word-enough, word-ran, one-ran, still-word}
 
 -- what is known of a good word w for n shares, on `size` cells, whose fields name the registers p, q and r
@@ -78,24 +78,28 @@ module _ {w n size : ℕ} {p q r : Place} (F : Fields w n size p q r) where
 
   -- ---- AND
   module _ (k : kindOf w ≡ 3) where
-    and-named : Named p (fieldD w) × Named q (fieldA w) × Named r (fieldB w)
-    and-named =
-        let h = registers (is-and w (F .pre .0) k) in
-        (named-d (h .0), named-a (h .1 .0), named-b (h .1 .1 .0))
+    and-in : (fieldD w < 32) × (fieldA w < 32) × (fieldB w < 32)
+    and-in = let h = registers (is-and w (F .pre .0) k) in (h .0, h .1 .0, h .1 .1 .0)
+
+    -- its operands, by their share 0
+    abbrev operand : ℕ → ℕ → ℕ
+    operand x = at (placed x 32)
 
     pub and-asks : (tape : List ℕ) (t : ℕ) → Enough tape t (stepsOf (wordsFor n (planStep w)))
-        → ((n ≤ 8) × (size ≡ 512) × Register p × Register q × Register r) × Enough tape t (andBlock scratch n (at p) (at q) (at r))
+        → ((2 ≤ n) × (n ≤ 8) × (size ≡ 512) × Register p × (fieldA w < 32) × (fieldB w < 32)) × Enough tape t (andBlock scratch n (at p) (operand (fieldA w)) (operand (fieldB w)))
     and-asks tape t e =
-        let N = and-named in
+        let h = and-in in
+        let D = named-d (h .0) in
         let f = word-enough (is-and w (F .pre .0) k) n (F .pre .1) (F .pre .2) tape t e in (
-          (F .pre .2, F .pre .3, N .0 .register, N .1 .register, N .2 .register),
-          and-enough n (N .0) (N .1) (N .2) tape t (subst (Enough tape t) (append-nil (block scratch n (And (fieldD w) (fieldA w) (fieldB w)))) f),
+          (F .pre .1, F .pre .2, F .pre .3, D .register, h .1, h .2),
+          and-enough n D (plan-placed (fieldA w) (h .1)) (plan-placed (fieldB w) (h .2)) tape t
+              (subst (Enough tape t) (append-nil (block scratch n (And (fieldD w) (fieldA w) (fieldB w)))) f),
         )
 
-    pub and-leaves : {tape cells after : List ℕ} {t t' : ℕ} → Ran (andBlock scratch n (at p) (at q) (at r)) tape t cells after t' → Done tape t cells after t'
+    pub and-leaves : {tape cells after : List ℕ} {t t' : ℕ} → Ran (andBlock scratch n (at p) (operand (fieldA w)) (operand (fieldB w))) tape t cells after t' → Done tape t cells after t'
     and-leaves h =
-        let N = and-named in
-        one-ran (is-and w (F .pre .0) k) n (F .pre .1) (F .pre .2) refl (and-ran n (N .0) (N .1) (N .2) h)
+        let i = and-in in
+        one-ran (is-and w (F .pre .0) k) n (F .pre .1) (F .pre .2) refl (and-ran n (named-d (i .0)) (plan-placed (fieldA w) (i .1)) (plan-placed (fieldB w) (i .2)) h)
 
   -- ---- NOT
   module _ (k : kindOf w ≡ 4) where
@@ -159,10 +163,10 @@ module _ {w n size : ℕ} {p q r : Place} (F : Fields w n size p q r) where
     add-steps = λ i. blocks scratch n (adding (sym (F .d .0) i) (sym (F .a .0) i) (sym (F .b .0) i))
 
     pub add-asks : (tape : List ℕ) (t : ℕ) → Enough tape t (stepsOf (wordsFor n (planStep w)))
-        → ((n ≤ 8) × (size ≡ 512) × OfPlan p × OfPlan q × OfPlan r) × Enough tape t (blocks scratch n (adding (p .base) (q .base) (r .base)))
+        → ((n ≤ 8) × (size ≡ 512) × OfPlan p × OfPlan q × OfPlan r × (2 ≤ n)) × Enough tape t (blocks scratch n (adding (p .base) (q .base) (r .base)))
     add-asks tape t e =
         let h = registers add-is in (
-          (F .pre .2, F .pre .3, of-plan p (fieldD w) (F .d .0) (F .d .1) (h .0), of-plan q (fieldA w) (F .a .0) (F .a .1) (h .1 .0), of-plan r (fieldB w) (F .b .0) (F .b .1) (h .1 .1 .0)),
+          (F .pre .2, F .pre .3, of-plan p (fieldD w) (F .d .0) (F .d .1) (h .0), of-plan q (fieldA w) (F .a .0) (F .a .1) (h .1 .0), of-plan r (fieldB w) (F .b .0) (F .b .1) (h .1 .1 .0), F .pre .1),
           subst (Enough tape t) add-steps (word-enough add-is n (F .pre .1) (F .pre .2) tape t e),
         )
 

@@ -1,5 +1,5 @@
 -- The blocks of a translation by the places of their registers. Rests on masking's Places.
-use mathlib.Core.Path.{_≡_, sym, ap, _∙_, subst}
+use mathlib.Core.Path.{_≡_, refl, sym, ap, _∙_, subst}
 use mathlib.Core.List.{List, map}
 use Prim.Native.Nat.{ℕ, _+_, _-_, _*_, _<_}
 use native.Mathlib.Omega.{arith}
@@ -9,8 +9,8 @@ use Rattle.masking.specs.Translation.{shares, shareCell, cellsOf, scratch, bloc
 use Rattle.masking.proofs.emitted.Places.{share-register, share-helper}
 use Rattle.gadgets.specs.declared.once.Place.{Place}
 use Rattle.gadgets.specs.declared.once.Op.{Op}
-use Rattle.gadgets.specs.Effects.{Enough, Ran, Register, Still, at, onceStep}
-use Rattle.blocks.specs.PlanWords.{OfPlan}
+use Rattle.gadgets.specs.Effects.{Enough, Ran, Register, Still, at, onceStep, placed}
+use Rattle.blocks.specs.PlanWords.{IsHelper, OfPlan}
 use Rattle.gadgets.proofs.Running.{still-ran}
 use Rattle.gadgets.proofs.Turn.{once-rands}
 
@@ -60,6 +60,13 @@ module _ (p : Place) (r : ℕ) (e : p .base ≡ r) (f : p .stride ≡ 32) (h : r
 
   pub plan-register-named : Named p r
   plan-register-named = subst (Named p) e (plan-named p of-plan)
+
+-- operands of AND by their share 0
+pub plan-placed : (r : ℕ) → r < 32 → Named (placed r 32) r
+plan-placed r h = plan-register-named (placed r 32) r refl refl h
+
+pub helper-placed : (p : Place) (h : ℕ) → IsHelper h p → h < 8 → Named (placed (p .base) 8) (32 + h)
+helper-placed p h e l = subst (λ (k : ℕ). Named (placed k 8) (32 + h)) (sym e) (helper-named h l)
 
 -- ---- once per share
 module _ (o : Op) (n : ℕ) {pd pa pb : Place} {d a b : ℕ} (ed : Named pd d) (ea : Named pa a) (eb : Named pb b) where

@@ -3,13 +3,14 @@ ghost use mathlib.Core.Path.{_≡_};
 ghost use Prim.Native.Nat.{_≤_, _<_};
 ghost use lib.ListN.{length};
 ghost use Rattle.masking.specs.Translation as translation;
-ghost use Rattle.blocks.specs.PlanWords.{OfPlan};
+ghost use Rattle.blocks.specs.PlanWords.{IsHelper, OfPlan};
 ghost use Rattle.masking.specs.Translation.{blocks, scratch};
 ghost use Rattle.gadgets.specs.Effects.{Enough, Ran};
-use gadgets::and::and_shares;
 use gadgets::once::Op;
 use gadgets::once::Place;
 use gadgets::once::each;
+use masked_and::and::and_of_helpers;
+use masked_and::and::and_of_registers;
 use word::step_word::StepWord;
 
 // The helper registers: the cells of their share 0, and how far apart a helper's shares are.
@@ -23,9 +24,17 @@ const T: usize = H + 3;
 
 const STRIDE: usize = 8;
 
-// T = G SHL k; T = P AND T; G = G XOR T.
-fn generated(k: u32, n: usize, tape: &[u64], t: usize, cells: &mut [u64]) -> usize
-    requires { ⌜ (k < 64) × (n ≤ 8) × (length (now cells) ≡ 512) ⌝ }
+// T = G SHL k; T = P AND T; G = G XOR T. The operands a and b of its AND are P and T, handed over as `and_of_helpers` asks.
+fn generated(
+    k: u32,
+    a: Place,
+    b: Place,
+    n: usize,
+    tape: &[u64],
+    t: usize,
+    cells: &mut [u64],
+) -> usize
+    requires { ⌜ (k < 64) × (n ≤ 8) × (length (now cells) ≡ 512) × (2 ≤ n) × IsHelper 2 a × IsHelper 3 b ⌝ }
     requires { ⌜ Enough (now tape) t (blocks scratch n (translation.generated k)) ⌝ }
     ensures { λ r. ⌜ Ran (blocks scratch n (translation.generated k)) (now (tape .entry)) t (now (cells .entry)) (now (cells .exit)) r ⌝ }
 {
@@ -33,23 +42,19 @@ fn generated(k: u32, n: usize, tape: &[u64], t: usize, cells: &mut [u64]) -> usi
         base: G,
         stride: STRIDE,
     };
-    let p = Place {
-        base: P,
-        stride: STRIDE,
-    };
     let s = Place {
         base: T,
         stride: STRIDE,
     };
     each(Op::Shl(k), s, g, g, n, cells);
-    let t = and_shares(s, p, s, n, tape, t, cells);
+    let t = and_of_helpers(s, a.base, b.base, n, tape, t, cells);
     each(Op::Xor, g, g, s, n, cells);
     t
 }
 
-// T = P SHL k; P = P AND T.
-fn passed(k: u32, n: usize, tape: &[u64], t: usize, cells: &mut [u64]) -> usize
-    requires { ⌜ (k < 64) × (n ≤ 8) × (length (now cells) ≡ 512) ⌝ }
+// T = P SHL k; P = P AND T, with a and b as above.
+fn passed(k: u32, a: Place, b: Place, n: usize, tape: &[u64], t: usize, cells: &mut [u64]) -> usize
+    requires { ⌜ (k < 64) × (n ≤ 8) × (length (now cells) ≡ 512) × (2 ≤ n) × IsHelper 2 a × IsHelper 3 b ⌝ }
     requires { ⌜ Enough (now tape) t (blocks scratch n (translation.passed k)) ⌝ }
     ensures { λ r. ⌜ Ran (blocks scratch n (translation.passed k)) (now (tape .entry)) t (now (cells .entry)) (now (cells .exit)) r ⌝ }
 {
@@ -62,30 +67,30 @@ fn passed(k: u32, n: usize, tape: &[u64], t: usize, cells: &mut [u64]) -> usize
         stride: STRIDE,
     };
     each(Op::Shl(k), s, p, p, n, cells);
-    and_shares(p, p, s, n, tape, t, cells)
+    and_of_helpers(p, a.base, b.base, n, tape, t, cells)
 }
 
 // A round that is not the last.
-fn round(k: u32, n: usize, tape: &[u64], t: usize, cells: &mut [u64]) -> usize
-    requires { ⌜ (k < 64) × (n ≤ 8) × (length (now cells) ≡ 512) ⌝ }
+fn round(k: u32, a: Place, b: Place, n: usize, tape: &[u64], t: usize, cells: &mut [u64]) -> usize
+    requires { ⌜ (k < 64) × (n ≤ 8) × (length (now cells) ≡ 512) × (2 ≤ n) × IsHelper 2 a × IsHelper 3 b ⌝ }
     requires { ⌜ Enough (now tape) t (blocks scratch n (translation.round k)) ⌝ }
     ensures { λ r. ⌜ Ran (blocks scratch n (translation.round k)) (now (tape .entry)) t (now (cells .entry)) (now (cells .exit)) r ⌝ }
 {
-    let t = generated(k, n, tape, t, cells);
-    passed(k, n, tape, t, cells)
+    let t = generated(k, a, b, n, tape, t, cells);
+    passed(k, a, b, n, tape, t, cells)
 }
 
-fn rounds(n: usize, tape: &[u64], t: usize, cells: &mut [u64]) -> usize
-    requires { ⌜ (n ≤ 8) × (length (now cells) ≡ 512) ⌝ }
+fn rounds(a: Place, b: Place, n: usize, tape: &[u64], t: usize, cells: &mut [u64]) -> usize
+    requires { ⌜ (n ≤ 8) × (length (now cells) ≡ 512) × (2 ≤ n) × IsHelper 2 a × IsHelper 3 b ⌝ }
     requires { ⌜ Enough (now tape) t (blocks scratch n translation.rounds) ⌝ }
     ensures { λ r. ⌜ Ran (blocks scratch n translation.rounds) (now (tape .entry)) t (now (cells .entry)) (now (cells .exit)) r ⌝ }
 {
-    let t = round(1, n, tape, t, cells);
-    let t = round(2, n, tape, t, cells);
-    let t = round(4, n, tape, t, cells);
-    let t = round(8, n, tape, t, cells);
-    let t = round(16, n, tape, t, cells);
-    generated(32, n, tape, t, cells)
+    let t = round(1, a, b, n, tape, t, cells);
+    let t = round(2, a, b, n, tape, t, cells);
+    let t = round(4, a, b, n, tape, t, cells);
+    let t = round(8, a, b, n, tape, t, cells);
+    let t = round(16, a, b, n, tape, t, cells);
+    generated(32, a, b, n, tape, t, cells)
 }
 
 // d = a + b for registers of a plan.
@@ -98,7 +103,7 @@ pub fn add_shares(
     t: usize,
     cells: &mut [u64],
 ) -> usize
-    requires { ⌜ (n ≤ 8) × (length (now cells) ≡ 512) × OfPlan d × OfPlan a × OfPlan b ⌝ }
+    requires { ⌜ (n ≤ 8) × (length (now cells) ≡ 512) × OfPlan d × OfPlan a × OfPlan b × (2 ≤ n) ⌝ }
     requires { ⌜ Enough (now tape) t (blocks scratch n (translation.adding (d .base) (a .base) (b .base))) ⌝ }
     ensures { λ r. ⌜ Ran (blocks scratch n (translation.adding (d .base) (a .base) (b .base))) (now (tape .entry)) t (now (cells .entry)) (now (cells .exit)) r ⌝ }
 {
@@ -119,9 +124,9 @@ pub fn add_shares(
         stride: STRIDE,
     };
     each(Op::Xor, h, a, b, n, cells);
-    let t = and_shares(g, a, b, n, tape, t, cells);
+    let t = and_of_registers(g, a.base, b.base, n, tape, t, cells);
     each(Op::Shl(0), p, h, h, n, cells);
-    let t = rounds(n, tape, t, cells);
+    let t = rounds(p, s, n, tape, t, cells);
     each(Op::Shl(1), s, g, g, n, cells);
     each(Op::Xor, d, h, s, n, cells);
     t

@@ -9,10 +9,10 @@ ghost use Rattle.masking.specs.Machine.{stepsOf};
 ghost use Rattle.gadgets.specs.Effects.{Enough, Ran, Still};
 ghost use Rattle.blocks.specs.PlanWords.{GoodPlanWord, OfPlan};
 use crate::add::add_shares;
-use gadgets::and::and_shares;
 use gadgets::once::Op;
 use gadgets::once::Place;
 use gadgets::once::each;
+use masked_and::and::and_of_registers;
 use word::step_word::StepWord;
 
 // A place's shares from 1 on.
@@ -71,7 +71,7 @@ pub fn word_done(w: u32, n: usize, tape: &[u64], t: usize, cells: &mut [u64]) ->
     match kind {
         StepWord::CONST => const_shares(d, StepWord::FIELD * f + g, n, cells),
         StepWord::XOR => each(Op::Xor, d, a, b, n, cells),
-        StepWord::AND => return and_shares(d, a, b, n, tape, t, cells),
+        StepWord::AND => return and_of_registers(d, f as usize, g as usize, n, tape, t, cells),
         StepWord::NOT => not_shares(d, a, n, cells),
         StepWord::SHL => each(Op::Shl(g), d, a, a, n, cells),
         StepWord::SHR => each(Op::Shr(g), d, a, a, n, cells),

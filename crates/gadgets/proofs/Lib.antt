@@ -1,7 +1,10 @@
--- Steps done on the cells, part by part (Running); a turn of the loop over shares (Turn) and over pairs of shares (OnPairs); AND in parts
--- (AndParts), and its scratch cells wiped (Zeros).
+-- Steps done on the cells, part by part (Running); a turn of the loop over shares (Turn); cells that are the same but for AND's t and u (Likeness), and AND's steps
+-- done up to these (Toward), a share (ShareTurns) and a pair of shares (OnPairs, RowTurns) at a time; its scratch cells wiped (Zeros).
 pub mod Running
 pub mod Turn
+pub mod Likeness
+pub mod Toward
 pub mod OnPairs
-pub mod AndParts
+pub mod ShareTurns
+pub mod RowTurns
 pub mod Zeros

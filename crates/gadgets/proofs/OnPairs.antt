@@ -10,10 +10,10 @@ use lib.Seq.{getD-set-same, getD-set-other, getD-drop}
 use Rattle.bits.specs.Ops.{xorW, andW}
 use Rattle.word.specs.declared.step.Step.{Step}
 use Rattle.word.specs.declared.step.Step.the-variants.{Xor, And, Rand}
-use Rattle.masking.specs.Translation.{Pair, shares, upFrom, pairsOf, pairs, refresh, scratch, products}
+use Rattle.masking.specs.Translation.{Pair, upFrom, pairsOf, pairs, refresh, scratch, products}
 use Rattle.masking.specs.Machine.{execStep, execSteps}
 use Rattle.gadgets.specs.Effects.{Ran, refreshed, crossedPair}
-use Rattle.masking.proofs.emitted.Rising.{rising, risen, from-first}
+use Rattle.masking.proofs.emitted.Rising.{rising, risen}
 
 -- ---- steps for each pair, pair by pair
 abbrev pub pair : ℕ → ℕ → Pair
@@ -39,12 +39,6 @@ module _ (f : List Pair → List Step) (none : f [] ≡ []) (first : (p : Pair) 
   in-rows i n h =
       ap (λ (is : List ℕ). f (pairs is)) (rising i n h)
       ∙ pair-append (pairsOf i (upFrom (i + 1) (n - (i + 1)))) (pairs (upFrom (i + 1) (n - (i + 1))))
-
-  pub rows-end : (i n : ℕ) → n ≤ i → f (pairs (upFrom i (n - i))) ≡ []
-  rows-end i n h = ap (λ (is : List ℕ). f (pairs is)) (risen i n h) ∙ none
-
-  pub rows-start : (n : ℕ) → f (pairs (shares n)) ≡ f (pairs (upFrom 0 (n - 0)))
-  rows-start n = ap (λ (is : List ℕ). f (pairs is)) (from-first n)
 
 -- ---- one pair
 next-word : (tape : List ℕ) (t : ℕ) → getD (drop t tape) 0 0 ≡ getD tape t 0

@@ -32,7 +32,6 @@ module _ (d a b : ℕ → ℕ) (i : ℕ) where
   pub once-takes : (o : Op) → takes (onceStep o d a b i) ≡ 0
   once-takes (op.Const k) = refl
   once-takes op.Xor = refl
-  once-takes op.And = refl
   once-takes op.Not = refl
   once-takes (op.Shl k) = refl
   once-takes (op.Shr k) = refl
@@ -42,7 +41,6 @@ module _ (d a b : ℕ → ℕ) (i : ℕ) where
   unfolding execStep
   once-exec (op.Const k) tape cells = refl
   once-exec op.Xor tape cells = refl
-  once-exec op.And tape cells = refl
   once-exec op.Not tape cells = refl
   once-exec (op.Shl k) tape cells = refl
   once-exec (op.Shr k) tape cells = refl
@@ -67,7 +65,6 @@ module _ (o : Op) (d a b : ℕ → ℕ) where
 pub once-later : (d a : ℕ → ℕ) (o : Op) (i : ℕ) → onceStep o (λ j. d (suc j)) (λ j. a (suc j)) (λ j. a (suc j)) i ≡ onceStep o d a a (suc i)
 once-later d a (op.Const k) i = refl
 once-later d a op.Xor i = refl
-once-later d a op.And i = refl
 once-later d a op.Not i = refl
 once-later d a (op.Shl k) i = refl
 once-later d a (op.Shr k) i = refl

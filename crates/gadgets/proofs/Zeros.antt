@@ -1,14 +1,15 @@
 -- Zeros put into cells: what CONST 0 into them does, whatever the order; and AND's scratch cells, share by share. Rests on masking's Rising.
-use mathlib.Core.Path.{_≡_, refl, ap, _∙_}
-use mathlib.Core.List.{List, [], _∷_, _++_, map}
+use mathlib.Core.Path.{_≡_, refl, sym, ap, _∙_}
+use mathlib.Core.List.{List, [], _∷_, _++_, append-assoc, map}
 use Prim.Native.Nat.{ℕ, _+_, _-_, _≤_, _<_}
 use native.Mathlib.Decide.{ℕ-discrete}
 use lib.ListN.{set}
 use lib.Seq.{set-comm}
 use Rattle.word.specs.Layout.{cellY, cellZ, cellT, cellU}
-use Rattle.masking.specs.Translation.{upFrom, scratch, scratchCells, wiping}
+use Rattle.masking.specs.Translation.{upFrom, scratch, scratchCells, shares, wiping}
 use Rattle.masking.specs.Machine.{execStep, execSteps}
 use Rattle.masking.proofs.emitted.Rising.{rising, risen, from-first}
+use Rattle.gadgets.specs.Effects.{Alike}
 
 abbrev pub zeroed : List ℕ → List ℕ → List ℕ
 zeroed [] c = c
@@ -31,6 +32,24 @@ swap c j k = by (ℕ-discrete j k)
 sooner : (js : List ℕ) (k : ℕ) (ks c : List ℕ) → zeroed (js ++ (k ∷ ks)) c ≡ zeroed (js ++ ks) (set c k 0)
 sooner [] k ks c = refl
 sooner (j ∷ js) k ks c = sooner js k ks (set c j 0) ∙ ap (zeroed (js ++ ks)) (swap c j k)
+
+-- cells that are alike are the same once t and u are zero
+zero-alike : {c c' : List ℕ} (j : ℕ) → Alike c c' → Alike (set c j 0) (set c' j 0)
+zero-alike {c} {c'} j a = record { same = out c ∙ ap (λ (l : List ℕ). set l j 0) (a .same) ∙ sym (out c') }
+  where
+    out : (l : List ℕ) → set (set (set l j 0) 272 0) 273 0 ≡ set (set (set l 272 0) 273 0) j 0
+    out l = ap (λ (k : List ℕ). set k 273 0) (swap l j 272) ∙ swap (set l 272 0) j 273
+
+alike-zeroed : {c c' : List ℕ} (js : List ℕ) → Alike c c' → zeroed (js ++ (272 ∷ 273 ∷ [])) c ≡ zeroed (js ++ (272 ∷ 273 ∷ [])) c'
+alike-zeroed [] a = a .same
+alike-zeroed (j ∷ js) a = alike-zeroed js (zero-alike j a)
+
+pub alike-wiped : {c c' : List ℕ} (n : ℕ) → Alike c c' → zeroed (scratchCells scratch n) c ≡ zeroed (scratchCells scratch n) c'
+alike-wiped {c} {c'} n a =
+    let ys = map cellY (shares n) in
+    let zs = map cellZ (shares n) in
+    let e = append-assoc ys zs (272 ∷ 273 ∷ []) in
+    ap (λ (ks : List ℕ). zeroed ks c) (sym e) ∙ alike-zeroed (ys ++ zs) a ∙ ap (λ (ks : List ℕ). zeroed ks c') e
 
 -- AND's scratch cells of some shares, and those from share i on
 abbrev over : List ℕ → List ℕ

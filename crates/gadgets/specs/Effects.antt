@@ -1,13 +1,14 @@
 -- What the contracts of inner functions say: a plan word's share steps done straight on the cells.
 -- Nothing here has to be believed: the contracts of the public calls do not cite it.
 use mathlib.Core.Path.{_≡_}
-use mathlib.Core.List.{List}
+use mathlib.Core.List.{List, map}
 use Prim.Native.Nat.{ℕ, _+_, _*_, _≤_, _<_}
 use lib.ListN.{length, getD, set, drop}
 use Rattle.bits.specs.Ops.{xorW, andW, notW, shlW, shrW, spreadW}
 use Rattle.word.specs.declared.step.Step.{Step}
 use Rattle.word.specs.declared.step.Step.the-variants.{Const, Xor, And, Not, Shl, Shr, Spread}
 use Rattle.masking.specs.Machine.{execSteps, randsOf}
+use Rattle.masking.specs.Translation.{shares}
 use Rattle.gadgets.specs.declared.once.Place.{Place}
 use Rattle.gadgets.specs.declared.once.Op.{Op}
 use Rattle.gadgets.specs.declared.once.Op.the-variants as op
@@ -39,7 +40,6 @@ InCells p = p .base + 7 * p .stride < 512
 abbrev pub Shifts : Op → Type 0
 Shifts (op.Const k) = Unit {0}
 Shifts op.Xor = Unit {0}
-Shifts op.And = Unit {0}
 Shifts op.Not = Unit {0}
 Shifts (op.Shl k) = k < 64
 Shifts (op.Shr k) = k < 64
@@ -48,7 +48,6 @@ Shifts op.Spread = Unit {0}
 abbrev pub valueOf : Op → ℕ → ℕ → ℕ
 valueOf (op.Const k) x y = k
 valueOf op.Xor x y = xorW x y
-valueOf op.And x y = andW x y
 valueOf op.Not x y = notW x
 valueOf (op.Shl k) x y = shlW x k
 valueOf (op.Shr k) x y = shrW x k
@@ -58,7 +57,6 @@ valueOf op.Spread x y = spreadW x
 abbrev pub onceStep : Op → (ℕ → ℕ) → (ℕ → ℕ) → (ℕ → ℕ) → ℕ → Step
 onceStep (op.Const k) d a b i = Const (d i) k
 onceStep op.Xor d a b i = Xor (d i) (a i) (b i)
-onceStep op.And d a b i = And (d i) (a i) (b i)
 onceStep op.Not d a b i = Not (d i) (a i)
 onceStep (op.Shl k) d a b i = Shl (d i) (a i) k
 onceStep (op.Shr k) d a b i = Shr (d i) (a i) k
@@ -88,9 +86,42 @@ abbrev pub crossedPair : ℕ → ℕ → ℕ → ℕ → ℕ → List ℕ → Li
 crossedPair p q i j r cells =
     stored i j r (andW (getD cells p 0) (getD cells (256 + j) 0)) (andW (getD cells q 0) (getD cells (256 + i) 0)) cells
 
--- AND's scratch: share i of y and of z
-abbrev pub placeY : Place
-placeY = record { base = 256; stride = 1 }
+-- ---- AND's parts, up to what its scratch cells t and u hold
 
-abbrev pub placeZ : Place
-placeZ = record { base = 264; stride = 1 }
+-- a place by its numbers
+abbrev pub placed : ℕ → ℕ → Place
+placed b over = record { base = b; stride = over }
+
+-- cells that are the same but for t and u
+pub record Alike (c c' : List ℕ) : Type 0 where
+  pub same : set (set c 272 0) 273 0 ≡ set (set c' 272 0) 273 0
+
+-- steps done from place t of the tape on, whatever t and u held before and hold after: the code has in locals what the steps put there
+pub record Nearly (ss : List Step) (tape : List ℕ) (t : ℕ) (before after : List ℕ) (next : ℕ) : Type 0 where
+  pub cells : (c : List ℕ) → Alike before c → Alike after (execSteps ss (drop t tape) c)
+  pub place : next ≡ t + randsOf ss
+
+-- the same of steps that take no tape word
+abbrev pub NearlyStill : List Step → List ℕ → List ℕ → Type 0
+NearlyStill ss before after = (tape c : List ℕ) → Alike before c → Alike after (execSteps ss tape c)
+
+-- b's shares copied to y
+abbrev pub copyIn : ℕ → (ℕ → ℕ) → List Step
+copyIn n b = map (λ i. Shl (256 + i) (b i) 0) (shares n)
+
+-- a's shares AND those of y, to z
+abbrev pub diagonal : ℕ → (ℕ → ℕ) → List Step
+diagonal n a = map (λ i. And (264 + i) (a i) (256 + i)) (shares n)
+
+-- z copied to d's shares
+abbrev pub copyOut : ℕ → (ℕ → ℕ) → List Step
+copyOut n d = map (λ i. Shl (d i) (264 + i) 0) (shares n)
+
+-- the cells after the refresh of one pair by the word r, and after its products behind r, t and u left alone
+abbrev pub refreshedY : ℕ → ℕ → ℕ → List ℕ → List ℕ
+refreshedY i j r cells = set (set cells (256 + i) (xorW (getD cells (256 + i) 0) r)) (256 + j) (xorW (getD cells (256 + j) 0) r)
+
+abbrev pub crossedZ : ℕ → ℕ → ℕ → ℕ → ℕ → List ℕ → List ℕ
+crossedZ p q i j r cells =
+    let w = xorW (xorW r (andW (getD cells p 0) (getD cells (256 + j) 0))) (andW (getD cells q 0) (getD cells (256 + i) 0)) in
+    set (set cells (264 + i) (xorW (getD cells (264 + i) 0) r)) (264 + j) (xorW (getD cells (264 + j) 0) w)

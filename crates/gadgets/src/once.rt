@@ -16,7 +16,6 @@ pub struct Place {
 pub enum Op {
     Const(u32),
     Xor,
-    And,
     Not,
     Shl(u32),
     Shr(u32),
@@ -30,7 +29,6 @@ pub fn value(op: Op, x: u64, y: u64) -> u64
     match op {
         Op::Const(k) => k as u64,
         Op::Xor => x ^ y,
-        Op::And => x & y,
         Op::Not => !x,
         Op::Shl(k) => x << k,
         Op::Shr(k) => x >> k,

@@ -5,10 +5,10 @@ ghost use Prim.Native.Nat.{_≤_};
 ghost use lib.ListN.{length};
 ghost use Rattle.masking.specs.Translation.{scratch, scratchCells, wiping};
 ghost use Rattle.gadgets.specs.Effects.{Still};
-use crate::pairs::T;
-use crate::pairs::U;
-use crate::pairs::Y;
-use crate::pairs::Z;
+use crate::scratch::T;
+use crate::scratch::U;
+use crate::scratch::Y;
+use crate::scratch::Z;
 
 // Zeros into AND's scratch cells: y and z of each share, t and u.
 pub fn wipe(n: usize, cells: &mut [u64])

@@ -1,5 +1,5 @@
 -- `blocks::add::add_shares` meets its contract.
-use mathlib.Core.Path.{_∙_}
+use mathlib.Core.Path.{refl, _∙_}
 use mathlib.Core.List.{[], _∷_, _++_}
 use Prim.Native.Nat.{_+_, _-_}
 use native.Mathlib.Omega.{arith}
@@ -9,13 +9,13 @@ use Rattle.masking.specs.Translation.{scratch, blocks, block, adding, rH, rG, r
 use Rattle.gadgets.proofs.Running.{start, part, enough, whole, blocks-part, blocks-enough}
 use Rattle.gadgets.specs.declared.once.Op.the-variants as op
 use Rattle.word.specs.declared.step.Step.the-variants.{Xor, And, Shl}
-use Rattle.blocks.proofs.Named.{helper-named, plan-named, once-ran, and-ran, and-enough}
+use Rattle.blocks.proofs.Named.{helper-named, plan-named, plan-placed, once-ran, and-ran, and-enough}
 use Rattle.blocks.proofs.add.add_shares.Statement.{statement}
 use Rattle.blocks.proofs.add.add_shares.Tie as tie
 
-and-shares-requires : tie.Need-and-shares-requires
+and-of-registers-requires : tie.Need-and-of-registers-requires
 unfolding adding
-and-shares-requires c κs =
+and-of-registers-requires c κs =
     let g = c .before .before .before .before .before .before .before .args in
     let n = g .n in
     let tape = now (g .tape) in
@@ -35,7 +35,7 @@ and-shares-requires c κs =
     let u₃ = block scratch n (Shl rP rH 0) in
     let u₄ = blocks scratch n (rounds ++ end) in
     let l₁ = part u₁ (u₂ ++ (u₃ ++ u₄)) (start tape (blocks scratch n (adding d a b)) (g .t) (now (g .cells))) (once-ran op.Xor n H A B tape (g .t) (c .before .before .before .each .ensures)) in
-    ((c .before .before .before .before .before .before .before .pre .0 .0, l₁ .size ∙ c .before .before .before .before .before .before .before .pre .0 .1, G .register, A .register, B .register), and-enough n G A B tape (g .t) (enough u₂ (u₃ ++ u₄) l₁ (c .before .before .before .before .before .before .before .pre .1)))
+    ((c .before .before .before .before .before .before .before .pre .0 .5, c .before .before .before .before .before .before .before .pre .0 .0, l₁ .size ∙ c .before .before .before .before .before .before .before .pre .0 .1, G .register, c .before .before .before .before .before .before .before .pre .0 .3 .0, c .before .before .before .before .before .before .before .pre .0 .4 .0), and-enough n G (plan-placed a (c .before .before .before .before .before .before .before .pre .0 .3 .0)) (plan-placed b (c .before .before .before .before .before .before .before .pre .0 .4 .0)) tape (g .t) (enough u₂ (u₃ ++ u₄) l₁ (c .before .before .before .before .before .before .before .pre .1)))
 
 rounds-requires : tie.Need-rounds-requires
 unfolding adding
@@ -59,9 +59,9 @@ rounds-requires c κs =
     let u₃ = block scratch n (Shl rP rH 0) in
     let u₄ = blocks scratch n (rounds ++ end) in
     let l₁ = part u₁ (u₂ ++ (u₃ ++ u₄)) (start tape (blocks scratch n (adding d a b)) (g .t) (now (g .cells))) (once-ran op.Xor n H A B tape (g .t) (c .before .before .before .before .before .before .before .before .before .before .before .each .ensures)) in
-    let l₂ = part u₂ (u₃ ++ u₄) l₁ (and-ran n G A B (c .before .before .before .before .before .before .before .and-shares .ensures)) in
-    let l₃ = part u₃ u₄ l₂ (once-ran (op.Shl 0) n P H H tape (c .before .before .before .before .before .before .before .and-shares .result) (c .before .before .before .each2 .ensures)) in
-    ((c .before .before .before .before .before .before .before .before .before .before .before .before .before .before .before .pre .0 .0, l₃ .size ∙ c .before .before .before .before .before .before .before .before .before .before .before .before .before .before .before .pre .0 .1), blocks-enough n rounds end l₃ (c .before .before .before .before .before .before .before .before .before .before .before .before .before .before .before .pre .1))
+    let l₂ = part u₂ (u₃ ++ u₄) l₁ (and-ran n G (plan-placed a (c .before .before .before .before .before .before .before .before .before .before .before .before .before .before .before .pre .0 .3 .0)) (plan-placed b (c .before .before .before .before .before .before .before .before .before .before .before .before .before .before .before .pre .0 .4 .0)) (c .before .before .before .before .before .before .before .and-of-registers .ensures)) in
+    let l₃ = part u₃ u₄ l₂ (once-ran (op.Shl 0) n P H H tape (c .before .before .before .before .before .before .before .and-of-registers .result) (c .before .before .before .each2 .ensures)) in
+    ((c .before .before .before .before .before .before .before .before .before .before .before .before .before .before .before .pre .0 .0, l₃ .size ∙ c .before .before .before .before .before .before .before .before .before .before .before .before .before .before .before .pre .0 .1, c .before .before .before .before .before .before .before .before .before .before .before .before .before .before .before .pre .0 .5, refl, refl), blocks-enough n rounds end l₃ (c .before .before .before .before .before .before .before .before .before .before .before .before .before .before .before .pre .1))
 
 each-requires-4 : tie.Need-each-requires-4
 unfolding adding
@@ -85,8 +85,8 @@ each-requires-4 c κs =
     let u₃ = block scratch n (Shl rP rH 0) in
     let u₄ = blocks scratch n (rounds ++ end) in
     let l₁ = part u₁ (u₂ ++ (u₃ ++ u₄)) (start tape (blocks scratch n (adding d a b)) (g .t) (now (g .cells))) (once-ran op.Xor n H A B tape (g .t) (c .before .before .before .before .before .before .before .before .before .before .before .before .before .before .before .before .before .before .before .each .ensures)) in
-    let l₂ = part u₂ (u₃ ++ u₄) l₁ (and-ran n G A B (c .before .before .before .before .before .before .before .before .before .before .before .before .before .before .before .and-shares .ensures)) in
-    let l₃ = part u₃ u₄ l₂ (once-ran (op.Shl 0) n P H H tape (c .before .before .before .before .before .before .before .before .before .before .before .before .before .before .before .and-shares .result) (c .before .before .before .before .before .before .before .before .before .before .before .each2 .ensures)) in
+    let l₂ = part u₂ (u₃ ++ u₄) l₁ (and-ran n G (plan-placed a (c .before .before .before .before .before .before .before .before .before .before .before .before .before .before .before .before .before .before .before .before .before .before .before .pre .0 .3 .0)) (plan-placed b (c .before .before .before .before .before .before .before .before .before .before .before .before .before .before .before .before .before .before .before .before .before .before .before .pre .0 .4 .0)) (c .before .before .before .before .before .before .before .before .before .before .before .before .before .before .before .and-of-registers .ensures)) in
+    let l₃ = part u₃ u₄ l₂ (once-ran (op.Shl 0) n P H H tape (c .before .before .before .before .before .before .before .before .before .before .before .before .before .before .before .and-of-registers .result) (c .before .before .before .before .before .before .before .before .before .before .before .each2 .ensures)) in
     let l₄ = blocks-part n rounds end l₃ (c .before .before .before .before .before .before .before .rounds .ensures) in
     let u₅ = block scratch n (Shl rT rG 1) in
     let u₆ = block scratch n (Xor d rH rT) in
@@ -115,8 +115,8 @@ returns c =
     let u₃ = block scratch n (Shl rP rH 0) in
     let u₄ = blocks scratch n (rounds ++ end) in
     let l₁ = part u₁ (u₂ ++ (u₃ ++ u₄)) (start tape (blocks scratch n (adding d a b)) (g .t) (now (g .cells))) (once-ran op.Xor n H A B tape (g .t) (c .before .before .before .before .before .before .before .before .before .before .before .before .before .before .before .before .before .before .before .before .before .before .each .ensures)) in
-    let l₂ = part u₂ (u₃ ++ u₄) l₁ (and-ran n G A B (c .before .before .before .before .before .before .before .before .before .before .before .before .before .before .before .before .before .before .and-shares .ensures)) in
-    let l₃ = part u₃ u₄ l₂ (once-ran (op.Shl 0) n P H H tape (c .before .before .before .before .before .before .before .before .before .before .before .before .before .before .before .before .before .before .and-shares .result) (c .before .before .before .before .before .before .before .before .before .before .before .before .before .before .each2 .ensures)) in
+    let l₂ = part u₂ (u₃ ++ u₄) l₁ (and-ran n G (plan-placed a (c .before .before .before .before .before .before .before .before .before .before .before .before .before .before .before .before .before .before .before .before .before .before .before .before .before .before .pre .0 .3 .0)) (plan-placed b (c .before .before .before .before .before .before .before .before .before .before .before .before .before .before .before .before .before .before .before .before .before .before .before .before .before .before .pre .0 .4 .0)) (c .before .before .before .before .before .before .before .before .before .before .before .before .before .before .before .before .before .before .and-of-registers .ensures)) in
+    let l₃ = part u₃ u₄ l₂ (once-ran (op.Shl 0) n P H H tape (c .before .before .before .before .before .before .before .before .before .before .before .before .before .before .before .before .before .before .and-of-registers .result) (c .before .before .before .before .before .before .before .before .before .before .before .before .before .before .each2 .ensures)) in
     let l₄ = blocks-part n rounds end l₃ (c .before .before .before .before .before .before .before .before .before .before .rounds .ensures) in
     let u₅ = block scratch n (Shl rT rG 1) in
     let u₆ = block scratch n (Xor d rH rT) in
@@ -128,7 +128,7 @@ add-shares-spec =
     tie.close
     (tie.spec
     (λ c κs. search needs)
-    and-shares-requires
+    and-of-registers-requires
     (λ c κs. search needs)
     rounds-requires
     (λ c κs. search needs)

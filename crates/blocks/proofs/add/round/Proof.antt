@@ -25,7 +25,7 @@ passed-requires c κs =
     let tape = now (g .tape) in
     let l₀ = start tape (blocks scratch n (round k)) (g .t) (now (g .cells)) in
     let l₁ = blocks-part n (generated k) (passed k) l₀ (c .before .before .before .generated .ensures) in
-    ((c .before .before .before .before .before .before .before .pre .0 .0, c .before .before .before .before .before .before .before .pre .0 .1, l₁ .size ∙ c .before .before .before .before .before .before .before .pre .0 .2), last-enough (blocks scratch n (passed k)) l₁ (c .before .before .before .before .before .before .before .pre .1))
+    ((c .before .before .before .before .before .before .before .pre .0 .0, c .before .before .before .before .before .before .before .pre .0 .1, l₁ .size ∙ c .before .before .before .before .before .before .before .pre .0 .2, c .before .before .before .before .before .before .before .pre .0 .3, c .before .before .before .before .before .before .before .pre .0 .4, c .before .before .before .before .before .before .before .pre .0 .5), last-enough (blocks scratch n (passed k)) l₁ (c .before .before .before .before .before .before .before .pre .1))
 
 returns : tie.Need-returns
 returns c =

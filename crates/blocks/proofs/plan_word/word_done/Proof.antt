@@ -11,11 +11,11 @@ const-shares-requires c κs = const-asks (record { pre = c .before .before .befo
 each-requires : tie.Need-each-requires
 each-requires c κs = xor-asks (record { pre = c .before .before .before .before .before .before .before .pre .0; d = c .before .before .before .before .register .ensures; a = c .before .before .before .register2 .ensures; b = c .before .before .register3 .ensures }) (c .before .match .keys2)
 
-and-shares-requires : tie.Need-and-shares-requires
-and-shares-requires c κs = and-asks (record { pre = c .before .before .before .before .before .before .before .pre .0; d = c .before .before .before .before .register .ensures; a = c .before .before .before .register2 .ensures; b = c .before .before .register3 .ensures }) (c .before .match .keys3) (now (c .before .before .before .before .before .before .before .args .tape)) (c .before .before .before .before .before .before .before .args .t) (c .before .before .before .before .before .before .before .pre .1)
+and-of-registers-requires : tie.Need-and-of-registers-requires
+and-of-registers-requires c κs = and-asks (record { pre = c .before .before .before .before .before .before .before .pre .0; d = c .before .before .before .before .register .ensures; a = c .before .before .before .register2 .ensures; b = c .before .before .register3 .ensures }) (c .before .match .keys3) (now (c .before .before .before .before .before .before .before .args .tape)) (c .before .before .before .before .before .before .before .args .t) (c .before .before .before .before .before .before .before .pre .1)
 
 returns : tie.Need-returns
-returns c = and-leaves (record { pre = c .before .before .before .before .before .before .before .before .before .before .pre .0; d = c .before .before .before .before .before .before .before .register .ensures; a = c .before .before .before .before .before .before .register2 .ensures; b = c .before .before .before .before .before .register3 .ensures }) (c .before .before .before .before .match .keys3) (c .before .before .and-shares .ensures)
+returns c = and-leaves (record { pre = c .before .before .before .before .before .before .before .before .before .before .pre .0; d = c .before .before .before .before .before .before .before .register .ensures; a = c .before .before .before .before .before .before .register2 .ensures; b = c .before .before .before .before .before .register3 .ensures }) (c .before .before .before .before .match .keys3) (c .before .before .and-of-registers .ensures)
 
 not-shares-requires : tie.Need-not-shares-requires
 not-shares-requires c κs = not-asks (record { pre = c .before .before .before .before .before .before .before .pre .0; d = c .before .before .before .before .register .ensures; a = c .before .before .before .register2 .ensures; b = c .before .before .register3 .ensures }) (c .before .match .keys4)
@@ -64,7 +64,9 @@ word-done-spec =
     (λ c. search needs)
     const-shares-requires
     each-requires
-    and-shares-requires
+    (λ c. search needs)
+    (λ c. search needs)
+    and-of-registers-requires
     (λ c. search needs)
     returns
     not-shares-requires

@@ -1,5 +1,5 @@
 -- `gadgets::once::value` meets its contract.
-use Rattle.bits.specs.Ops.{xorW, andW, notW, shlW, shrW, spreadW}
+use Rattle.bits.specs.Ops.{xorW, notW, shlW, shrW, spreadW}
 use borrow.Author.Needs.{needs}
 use Rattle.gadgets.proofs.once.value.Statement.{statement}
 use Rattle.gadgets.proofs.once.value.Tie as tie
@@ -15,30 +15,25 @@ unfolding xorW
 returns-2 c = rw (c .enum-told .given .1)
 
 returns-3 : tie.Need-returns-3
-unfolding andW
+unfolding notW
 returns-3 c = rw (c .enum-told2 .given .1)
 
 returns-4 : tie.Need-returns-4
-unfolding notW
-returns-4 c = rw (c .enum-told3 .given .1)
+unfolding shlW
+returns-4 c = rw (c .before .op2 .given .1)
 
 returns-5 : tie.Need-returns-5
-unfolding shlW
-returns-5 c = rw (c .before .op2 .given .1)
+unfolding shrW
+returns-5 c = rw (c .before .op3 .given .1)
 
 returns-6 : tie.Need-returns-6
-unfolding shrW
-returns-6 c = rw (c .before .op3 .given .1)
-
-returns-7 : tie.Need-returns-7
 unfolding spreadW
-returns-7 c = rw (c .enum-told4 .given .1)
+returns-6 c = rw (c .enum-told3 .given .1)
 
 pub value-spec : {M : Type 1} → statement M
 value-spec =
     tie.close
     (tie.spec
-    (λ c. search needs)
     (λ c. search needs)
     (λ c. search needs)
     (λ c. search needs)
@@ -56,5 +51,4 @@ value-spec =
     returns-3
     returns-4
     returns-5
-    returns-6
-    returns-7)
+    returns-6)

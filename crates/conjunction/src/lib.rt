@@ -1,0 +1,4 @@
+// AND on three to eight shares by functions of constant n, for two families of operands: the registers of plans and ADD's helper registers. The contracts are
+// those of the share steps.
+pub mod helpers;
+pub mod registers;

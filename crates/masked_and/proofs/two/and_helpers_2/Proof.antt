@@ -1,0 +1,93 @@
+-- `masked_and::two::and_helpers_2` meets its contract: what it stores is what OnTwo says of.
+use mathlib.Core.Path.{_≡_}
+use Prim.Native.Nat.{_+_}
+use native.Mathlib.Omega.{arith}
+use denote.Ref.{now}
+use borrow.Author.Needs.{needs}
+use lib.ListN.{length-set}
+use Rattle.bits.specs.Ops.{xorW, andW}
+use Rattle.gadgets.specs.Effects.{at, placed}
+use Rattle.gadgets.proofs.Turn.{at-first}
+use Rattle.conjunction.proofs.Parts.{two-words, ran-size}
+use Rattle.masked_and.proofs.OnTwo.{two-done}
+use Rattle.masked_and.proofs.two.and_helpers_2.Statement.{statement}
+use Rattle.masked_and.proofs.two.and_helpers_2.Tie as tie
+
+shared-slice-read-y0 : tie.Need-shared-slice-read-y0
+shared-slice-read-y0 c = omega (arith, two-words (at (c .before .before .before .before .args .d)) (at (placed (c .before .before .before .before .args .a) 8)) (at (placed (c .before .before .before .before .args .b) 8)) (now (c .before .before .before .before .args .tape)) (c .before .before .before .before .args .t) (c .before .before .before .before .pre .1))
+
+shared-slice-read-y1 : tie.Need-shared-slice-read-y1
+shared-slice-read-y1 c = omega (arith, two-words (at (c .before .before .before .before .before .before .args .d)) (at (placed (c .before .before .before .before .before .before .args .a) 8)) (at (placed (c .before .before .before .before .before .before .args .b) 8)) (now (c .before .before .before .before .before .before .args .tape)) (c .before .before .before .before .before .before .args .t) (c .before .before .before .before .before .before .pre .1))
+
+shared-slice-read-s : tie.Need-shared-slice-read-s
+shared-slice-read-s c = omega (arith, two-words (at (c .before .before .before .before .before .before .before .before .args .d)) (at (placed (c .before .before .before .before .before .before .before .before .args .a) 8)) (at (placed (c .before .before .before .before .before .before .before .before .args .b) 8)) (now (c .before .before .before .before .before .before .before .before .args .tape)) (c .before .before .before .before .before .before .before .before .args .t) (c .before .before .before .before .before .before .before .before .pre .1))
+
+slice-read-a1 : tie.Need-slice-read-a1
+slice-read-a1 c = simp length-set (omega (arith, c .before .before .before .before .before .before .before .before .before .pre .0 .2 .inside))
+
+slice-write-cells-2 : tie.Need-slice-write-cells-2
+slice-write-cells-2 c = simp length-set (omega arith)
+
+shared-slice-read-cells : tie.Need-shared-slice-read-cells
+shared-slice-read-cells c = omega (arith, two-words (at (c .before .before .before .before .before .before .before .before .before .before .before .args .d)) (at (placed (c .before .before .before .before .before .before .before .before .before .before .before .args .a) 8)) (at (placed (c .before .before .before .before .before .before .before .before .before .before .before .args .b) 8)) (now (c .before .before .before .before .before .before .before .before .before .before .before .args .tape)) (c .before .before .before .before .before .before .before .before .before .before .before .args .t) (c .before .before .before .before .before .before .before .before .before .before .before .pre .1))
+
+slice-write-cells-3 : tie.Need-slice-write-cells-3
+slice-write-cells-3 c = simp length-set (omega (arith, c .before .before .before .before .before .before .before .before .before .before .before .pre .0 .1 .inside))
+
+slice-write-cells-4 : tie.Need-slice-write-cells-4
+slice-write-cells-4 c = simp length-set (omega (arith, c .before .before .before .before .before .before .before .before .before .before .before .pre .0 .1 .inside))
+
+wipe-requires : tie.Need-wipe-requires
+wipe-requires c κs = (omega arith, simp length-set (c .before .before .before .before .before .before .before .before .before .before .before .before .pre .0 .0))
+
+returns : tie.Need-returns
+unfolding xorW andW
+returns c =
+    let s = c .before .before .before .before .before .before .before .before .before .before .before .before .before .before .before in
+    let g = s .args in
+    let A = placed (g .a) 8 in
+    let B = placed (g .b) 8 in
+    let first : g .d .base ≡ at (g .d) 0 = at-first (g .d) in
+    let next : g .d .base + g .d .stride ≡ at (g .d) 1 = omega (arith, native.Mathlib.Nat.one-mul (g .d .stride)) in
+    two-done A B (g .d) (s .pre .0 .2) (s .pre .0 .3) (s .pre .0 .1) (now (g .tape)) (now (g .cells)) (g .t) (s .pre .0 .0)
+    (λ k. omega (arith, c .before .before .before .before .before .before .before .before .before .before .before .before .before .slice-known .given k)) (λ k. omega (arith, c .before .before .before .before .before .before .before .before .before .before .before .before .before .before .shared-slice-known .given k))
+    _ _ _ _ _ _ (omega arith) (omega arith) (omega arith) (omega arith) first next _ (c .before .before .wipe .ensures)
+
+same-length : tie.Need-same-length
+same-length c = ran-size (returns c)
+
+pub and-helpers-2-spec : {M : Type 1} → statement M
+and-helpers-2-spec =
+    tie.close
+    (tie.spec
+    (λ c. search needs)
+    (λ c. search needs)
+    (λ c. search needs)
+    shared-slice-read-y0
+    (λ c. search needs)
+    (λ c. search needs)
+    (λ c. search needs)
+    (λ c. search needs)
+    shared-slice-read-y1
+    (λ c. search needs)
+    (λ c. search needs)
+    (λ c. search needs)
+    (λ c. search needs)
+    shared-slice-read-s
+    (λ c. search needs)
+    (λ c. search needs)
+    (λ c. search needs)
+    slice-read-a1
+    slice-write-cells-2
+    (λ c. search needs)
+    (λ c. search needs)
+    (λ c. search needs)
+    shared-slice-read-cells
+    (λ c. search needs)
+    slice-write-cells-3
+    (λ c. search needs)
+    slice-write-cells-4
+    wipe-requires
+    (λ c. search needs)
+    same-length
+    returns)

@@ -1,0 +1,2 @@
+-- AND's pairs row by row (InRows).
+pub mod InRows

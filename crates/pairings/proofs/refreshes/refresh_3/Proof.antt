@@ -1,0 +1,40 @@
+-- `pairings::refreshes::refresh_3` meets its contract.
+use mathlib.Core.Path.{_∙_}
+use denote.Ref.{now}
+use lib.Dec.{lit<, lit≤}
+use Rattle.gadgets.proofs.Toward.{near-size}
+use Rattle.pairings.proofs.InRows.{no-rows, refresh-from, refresh-row-enough, refresh-rest-enough}
+use Rattle.pairings.proofs.refreshes.refresh_3.Statement.{statement}
+use Rattle.pairings.proofs.refreshes.refresh_3.Tie as tie
+
+refresh-row-requires : tie.Need-refresh-row-requires
+refresh-row-requires c κs =
+    let s = c .before .before .before in
+    let g = s .args in
+    ((lit< tt, lit≤ tt, s .pre .0), refresh-row-enough (now (g .tape)) (g .t) 0 3 (lit< tt) (s .pre .1))
+
+refresh-row-requires-2 : tie.Need-refresh-row-requires-2
+refresh-row-requires-2 c κs =
+    let s = c .before .before .before .before .before .before .before in
+    let g = s .args in
+    let x0 = c .before .before .before .refresh-row in
+    ((lit< tt, lit≤ tt, near-size (x0 .ensures) ∙ s .pre .0), refresh-row-enough (now (g .tape)) (x0 .result) 1 3 (lit< tt) (refresh-rest-enough (now (g .tape)) (g .t) 0 3 (lit< tt) (s .pre .1) (x0 .ensures)))
+
+returns : tie.Need-returns
+returns c =
+    let g = c .before .before .before .before .before .before .before .before .before .before .args in
+    let x0 = c .before .before .before .before .before .before .refresh-row in
+    let x1 = c .before .before .refresh-row2 in
+    refresh-from (now (g .tape)) (g .t) 0 3 (lit< tt) (x0 .ensures) (refresh-from (now (g .tape)) (x0 .result) 1 3 (lit< tt) (x1 .ensures) (no-rows (now (g .tape)) (x1 .result) _))
+
+same-length : tie.Need-same-length
+same-length c = near-size (returns c)
+
+pub refresh-3-spec : {M : Type 1} → statement M
+refresh-3-spec =
+    tie.close
+    (tie.spec
+    refresh-row-requires
+    refresh-row-requires-2
+    same-length
+    returns)
