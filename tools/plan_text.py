@@ -1,4 +1,5 @@
 """The parts of a compiled plan's crate that depend on its words, for the texts in tools/straight: lists, arms of matches, and what the proof of a match says arm by arm."""
+from plan_cut import AND
 
 WRITTEN = "Written by tools/compile_plan.py: change the plan or the compiler, not this file."
 WIDTH = 100  # of a line of code, as rt fmt breaks it
@@ -14,7 +15,16 @@ def parts(plan):
         "PUB": "" if plan.operands == 1 else "pub ", "ZEROS": ", zerosFor" if plan.operands == 1 else "",
         "ONE_OPERAND": "use execution::one_operand::NONE;\nuse execution::one_operand::at_most_eight;\n" if plan.operands == 1 else "",
         "BELOW": f"(k < {len(plan.runs)}) × " if rows else "", "SHOW_BELOW": "omega arith, " if rows else "", "SIZE": "2" if rows else "1",
-    } | lists(plan) | code(plan) | on_share_proof(plan) | gate_proof(plan)
+    } | gate_kind(plan) | lists(plan) | code(plan) | on_share_proof(plan) | gate_proof(plan)
+
+
+def gate_kind(plan):
+    """a plan without ADD links none"""
+    if all(word >> 28 == AND for word in plan.gates):
+        return {"GATE_DONE": "and_done", "GATE_NAME": "and-done", "GATE_KIND": "(λ k. eqb k 3)", "KIND_USE": "", "KIND_EQB": "eqb, ",
+                "SHOW_KIND": "eqb→eq _ 3 (G .1)", "SHOW_USE": "use lib.Dec.{eqb→eq}\n"}
+    return {"GATE_DONE": "gate_done", "GATE_NAME": "gate-done", "GATE_KIND": "isGate", "KIND_USE": "use Rattle.blocks.specs.PlanWords.{isGate}\n",
+            "KIND_EQB": "", "SHOW_KIND": "G .1", "SHOW_USE": ""}
 
 
 def listed(words):

@@ -1,6 +1,5 @@
--- The blocks of a translation by the places of their registers (Named), CONST and NOT (Firsts), and plan words by kind (Words) over registers
+-- The blocks of a translation by the places of their registers (Named), and plan words by kind (Words), AND and ADD over registers
 -- that are their fields (ByField).
 pub mod Named
-pub mod Firsts
 pub mod Words
 pub mod ByField

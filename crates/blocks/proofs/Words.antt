@@ -1,14 +1,12 @@
 -- A plan word that is not bad, by its kind: its step, the ranges of its fields, and its share steps.
 -- Rests on masking's Steps and Counts.
 use mathlib.Core.Path.{_≡_, refl, sym, ap, _∙_, subst}
-use mathlib.Core.Logic.{_≢_}
 use mathlib.Core.Bool.{Bool, true, false, not}
 use mathlib.Core.List.{List, [], _∷_, append-nil}
 use Prim.Native.Nat.{ℕ, _+_, _*_, _≤_, _<_}
-use native.Mathlib.Omega.{arith}
 use lib.Dec.{T, eqb}
 use Rattle.word.specs.declared.step.Step.{Step}
-use Rattle.word.specs.declared.step.Step.the-variants.{Const, Xor, And, Not, Shl, Shr, Spread, Add, Rand}
+use Rattle.word.specs.declared.step.Step.the-variants.{Const, Xor, And, Not, Shl, Shr, Spread, Add}
 use Rattle.word.specs.declared.step.Decoded.{Decoded}
 use Rattle.word.specs.declared.step.Decoded.the-variants.{Good, Bad}
 use Rattle.word.specs.Encoding.{kindOf, bit27, fieldD, fieldA, fieldB, either, row, named, held, kindNumber, numberFits, within, inPlan, planStep}
@@ -17,8 +15,7 @@ use Rattle.word.specs.Layout.{tapeOf}
 use Rattle.masking.specs.Translation.{block, blocks, laidOut, scratch, translated, wordsFor}
 use Rattle.masking.specs.Machine.{randsOf, stepsOf}
 use Rattle.word.proofs.Ranges.{both, within-cells, within-number}
-use Rattle.word.proofs.Together.{taken-rule}
-use Rattle.masking.proofs.emitted.Steps.{taken-kind, steps-of-words}
+use Rattle.masking.proofs.emitted.Steps.{steps-of-words}
 use Rattle.masking.proofs.emitted.Counts.{step-counts}
 use Rattle.gadgets.specs.Effects.{Enough, Ran, Still}
 use Rattle.blocks.specs.PlanWords.{GoodPlanWord, IsGood}
@@ -93,40 +90,9 @@ module _ (w : ℕ) (good : GoodPlanWord w) where
   unfolding row
   is-spread e = word-is (eqb b 0) _ (ap (λ (k : ℕ). row k d a b) e)
 
-  -- kinds are 1..8
-  kind-range : (1 ≤ kindOf w) × (kindOf w ≤ 8)
-  kind-range = by (planStep w) refl good
-    where
-      in-plan : (s : Step) → T (inPlan s) → (1 ≤ kindNumber s) × (kindNumber s ≤ 8)
-      in-plan (Const d k) h = (omega arith, omega arith)
-      in-plan (Xor d a b) h = (omega arith, omega arith)
-      in-plan (And d a b) h = (omega arith, omega arith)
-      in-plan (Not d a) h = (omega arith, omega arith)
-      in-plan (Shl d a b) h = (omega arith, omega arith)
-      in-plan (Shr d a b) h = (omega arith, omega arith)
-      in-plan (Spread d a) h = (omega arith, omega arith)
-      in-plan (Add d a b) h = (omega arith, omega arith)
-      in-plan (Rand d) h = absurd h
-
-      by : (x : Decoded) → planStep w ≡ x → IsGood x → (1 ≤ kindOf w) × (kindOf w ≤ 8)
-      by (Good s) e h = subst (λ (k : ℕ). (1 ≤ k) × (k ≤ 8)) (sym (taken-kind inPlan w s e)) (in-plan s (taken-rule inPlan w s e))
-      by Bad e h = absurd h
-
-  pub is-add : kindOf w ≢ 1 → kindOf w ≢ 2 → kindOf w ≢ 3 → kindOf w ≢ 4 → kindOf w ≢ 5 → kindOf w ≢ 6 → kindOf w ≢ 7 → Word w (Add d a b)
+  pub is-add : kindOf w ≡ 8 → Word w (Add d a b)
   unfolding row
-  is-add f₁ f₂ f₃ f₄ f₅ f₆ f₇ = word-is true _ (ap (λ (k : ℕ). row k d a b) (eight (kindOf w) kind-range f₁ f₂ f₃ f₄ f₅ f₆ f₇))
-    where
-      eight : (k : ℕ) → (1 ≤ k) × (k ≤ 8) → k ≢ 1 → k ≢ 2 → k ≢ 3 → k ≢ 4 → k ≢ 5 → k ≢ 6 → k ≢ 7 → k ≡ 8
-      eight k r g₁ g₂ g₃ g₄ g₅ g₆ g₇ = upper k (r .1) (middle k (lower k (r .0) g₁ g₂ g₃) g₄ g₅) g₆ g₇
-        where
-          lower : (k : ℕ) → 1 ≤ k → k ≢ 1 → k ≢ 2 → k ≢ 3 → 4 ≤ k
-          lower k r g₁ g₂ g₃ = omega (arith, g₁, g₂, g₃)
-
-          middle : (k : ℕ) → 4 ≤ k → k ≢ 4 → k ≢ 5 → 6 ≤ k
-          middle k r g₄ g₅ = omega (arith, g₄, g₅)
-
-          upper : (k : ℕ) → k ≤ 8 → 6 ≤ k → k ≢ 6 → k ≢ 7 → k ≡ 8
-          upper k r l g₆ g₇ = omega (arith, g₆, g₇)
+  is-add e = word-is true _ (ap (λ (k : ℕ). row k d a b) e)
 
 -- ---- its share steps
 module _ {w : ℕ} {s : Step} (is : Word w s) (n : ℕ) (least : 2 ≤ n) (most : n ≤ 8) where

@@ -1,6 +1,8 @@
 -- Names for a plan's registers as places and for good plan words, cited by inner functions only: nothing here has to be believed.
 use mathlib.Core.Path.{_≡_}
+use mathlib.Core.Bool.{Bool, _||_}
 use Prim.Native.Nat.{ℕ, _+_, _<_}
+use lib.Dec.{eqb}
 use Rattle.word.specs.declared.step.Decoded.{Decoded}
 use Rattle.word.specs.declared.step.Decoded.the-variants.{Good, Bad}
 use Rattle.word.specs.Encoding.{planStep}
@@ -21,3 +23,7 @@ IsGood Bad = ⊥
 
 abbrev pub GoodPlanWord : ℕ → Type 0
 GoodPlanWord w = IsGood (planStep w)
+
+-- the kinds that join shares: 3 AND, 8 ADD
+abbrev pub isGate : ℕ → Bool
+isGate k = eqb k 3 || eqb k 8

@@ -1,3 +1,3 @@
-// A plan word's share steps done straight on the cells: ADD by its gadgets (add), and any word by its kind (plan_word).
+// Words of a plan that join shares, done straight on the cells: ADD by its gadgets (add), and AND and ADD as words (gates).
 mod add;
-pub mod plan_word;
+pub mod gates;

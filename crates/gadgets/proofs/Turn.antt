@@ -1,7 +1,7 @@
 -- What one turn of the loop over shares does. Rests on masking's Rising.
 use mathlib.Core.Path.{_≡_, refl, ap, _∙_}
 use mathlib.Core.List.{List, [], _∷_, map}
-use Prim.Native.Nat.{ℕ, suc, _+_, _-_, _*_, _≤_, _<_}
+use Prim.Native.Nat.{ℕ, _+_, _-_, _*_, _≤_, _<_}
 use native.Mathlib.Nat.{mul-le-mul-right, suc-mul}
 use native.Mathlib.Numerals.{add-one}
 use native.Mathlib.Omega.{arith}
@@ -30,21 +30,13 @@ at-fits p h i l = omega (arith, mul-le-mul-right {m = i} {n = 8} (p .stride) (om
 -- ---- one share's step
 module _ (d a b : ℕ → ℕ) (i : ℕ) where
   pub once-takes : (o : Op) → takes (onceStep o d a b i) ≡ 0
-  once-takes (op.Const k) = refl
   once-takes op.Xor = refl
-  once-takes op.Not = refl
   once-takes (op.Shl k) = refl
-  once-takes (op.Shr k) = refl
-  once-takes op.Spread = refl
 
   once-exec : (o : Op) (tape cells : List ℕ) → execStep (onceStep o d a b i) tape cells ≡ set cells (d i) (valueOf o (getD cells (a i) 0) (getD cells (b i) 0))
   unfolding execStep
-  once-exec (op.Const k) tape cells = refl
   once-exec op.Xor tape cells = refl
-  once-exec op.Not tape cells = refl
   once-exec (op.Shl k) tape cells = refl
-  once-exec (op.Shr k) tape cells = refl
-  once-exec op.Spread tape cells = refl
 
 module _ (o : Op) (d a b : ℕ → ℕ) where
   -- steps without tape words
@@ -60,12 +52,3 @@ module _ (o : Op) (d a b : ℕ → ℕ) where
       ap (λ (is : List ℕ). execSteps (map (onceStep o d a b) is) tape cells) (rising i n h)
       ∙ ap (λ (k : ℕ). execSteps (map (onceStep o d a b) (upFrom (i + 1) (n - (i + 1)))) (drop k tape) (execStep (onceStep o d a b i) tape cells)) (once-takes d a b i o)
       ∙ ap (execSteps (map (onceStep o d a b) (upFrom (i + 1) (n - (i + 1)))) tape) (once-exec d a b i o tape cells)
-
--- a share later by one
-pub once-later : (d a : ℕ → ℕ) (o : Op) (i : ℕ) → onceStep o (λ j. d (suc j)) (λ j. a (suc j)) (λ j. a (suc j)) i ≡ onceStep o d a a (suc i)
-once-later d a (op.Const k) i = refl
-once-later d a op.Xor i = refl
-once-later d a op.Not i = refl
-once-later d a (op.Shl k) i = refl
-once-later d a (op.Shr k) i = refl
-once-later d a op.Spread i = refl

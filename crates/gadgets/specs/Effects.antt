@@ -38,29 +38,17 @@ InCells p = p .base + 7 * p .stride < 512
 
 -- a shift is by less than 64
 abbrev pub Shifts : Op → Type 0
-Shifts (op.Const k) = Unit {0}
 Shifts op.Xor = Unit {0}
-Shifts op.Not = Unit {0}
 Shifts (op.Shl k) = k < 64
-Shifts (op.Shr k) = k < 64
-Shifts op.Spread = Unit {0}
 
 abbrev pub valueOf : Op → ℕ → ℕ → ℕ
-valueOf (op.Const k) x y = k
 valueOf op.Xor x y = xorW x y
-valueOf op.Not x y = notW x
 valueOf (op.Shl k) x y = shlW x k
-valueOf (op.Shr k) x y = shrW x k
-valueOf op.Spread x y = spreadW x
 
 -- the step of share i, with the cells of d, a and b
 abbrev pub onceStep : Op → (ℕ → ℕ) → (ℕ → ℕ) → (ℕ → ℕ) → ℕ → Step
-onceStep (op.Const k) d a b i = Const (d i) k
 onceStep op.Xor d a b i = Xor (d i) (a i) (b i)
-onceStep op.Not d a b i = Not (d i) (a i)
 onceStep (op.Shl k) d a b i = Shl (d i) (a i) k
-onceStep (op.Shr k) d a b i = Shr (d i) (a i) k
-onceStep op.Spread d a b i = Spread (d i) (a i)
 
 -- ---- pairs of shares
 

@@ -14,12 +14,8 @@ pub struct Place {
 
 // What a share's cell becomes, of the same share of two operands.
 pub enum Op {
-    Const(u32),
     Xor,
-    Not,
     Shl(u32),
-    Shr(u32),
-    Spread,
 }
 
 pub fn value(op: Op, x: u64, y: u64) -> u64
@@ -27,12 +23,8 @@ pub fn value(op: Op, x: u64, y: u64) -> u64
     ensures { λ r. ⌜ r ≡ valueOf op x y ⌝ }
 {
     match op {
-        Op::Const(k) => k as u64,
         Op::Xor => x ^ y,
-        Op::Not => !x,
         Op::Shl(k) => x << k,
-        Op::Shr(k) => x >> k,
-        Op::Spread => (x % 2) * u64::MAX,
     }
 }
 

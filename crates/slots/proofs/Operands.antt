@@ -1,15 +1,16 @@
 -- A call's operands placed from slots, and its result kept in one: what `operands`, the run of a plan and the copy of register 2 make of the
 -- slots. Rests on Holding and on execution's Beside.
 use mathlib.Core.Path.{_≡_, refl, sym, ap, ap₂, _∙_}
-use mathlib.Core.List.{List, [], _∷_, _++_}
+use mathlib.Core.List.{List, [], _∷_}
 use Prim.Native.Nat.{ℕ, suc, _+_, _-_, _*_, _≤_, _<_}
 use native.Mathlib.Omega.{arith}
-use lib.ListN.{length, getD, set, drop, replicate, length-drop}
-use lib.Seq.{getD-drop, getD-append-add}
-use borrow.Rule.Slice.PartMut.{midOf, putMid, mid-len}
+use lib.Dec.{T}
+use lib.ListN.{length, getD, set, drop}
+use lib.Seq.{getD-drop}
 use Rattle.word.specs.Layout.{cell}
 use Rattle.masking.specs.Foretold.{Accepted, foretoldTape}
 use Rattle.masking.specs.Machine.{stepsOf}
+use Rattle.masking.specs.Reads.{knownAfter, memberOf, readsOnly}
 use Rattle.masking.specs.Translation.{program}
 use Rattle.gadgets.specs.Effects.{Ran}
 use Rattle.binary64.specs.Operations.{Operation}
@@ -29,53 +30,31 @@ written-placed : (r i : ℕ) (xs l : List ℕ) → written 32 r i xs l ≡ place
 written-placed r i [] l = refl
 written-placed r i (x ∷ xs) l = written-placed r (suc i) xs (set l (cell i r) x)
 
--- the cells of share programs cleared
-pub cleared : List ℕ → List ℕ
-cleared work = replicate machineCells 0 ++ drop machineCells work
-
 module _ (n : ℕ) (few : n ≤ 8) (work : List ℕ) (size : length work ≡ 512) where
-  -- slots lie beside them
-  slot-cleared : (k : ℕ) → heldOf n k (cleared work) ≡ heldOf n k work
-  unfolding cleared
-  slot-cleared k =
-      read-other n slotStep (slotAt k) work (cleared work)
-      (λ i l.
-      let p : slotStep * i + slotAt k ≡ machineCells + (slotStep * i + k) = omega arith in
-      ap (λ (x : ℕ). getD (cleared work) x 0) p
-      ∙ getD-append-add (replicate machineCells 0) (drop machineCells work) (slotStep * i + k) 0
-      ∙ getD-drop machineCells work (slotStep * i + k) 0 ∙ ap (λ (x : ℕ). getD work x 0) (sym p))
-
-  -- and beside a register
+  -- slots lie beside a register
   slot-placed : (r k : ℕ) (xs l : List ℕ) → r < 32 → length xs ≡ n → heldOf n k (written 32 r 0 xs l) ≡ heldOf n k l
   slot-placed r k xs l lr e =
       read-other n slotStep (slotAt k) l (written 32 r 0 xs l)
       (λ i li. written-other 32 r 0 xs l (slotStep * i + slotAt k) (λ j lo hi q. omega arith))
 
-  pub operands-are : (a b : ℕ) {part w₁ w₂ : List ℕ} → part ≡ replicate (length (midOf 0 (machineCells - 0) work)) 0
-      → w₁ ≡ written 32 0 0 (heldOf n a (putMid 0 (machineCells - 0) work part)) (putMid 0 (machineCells - 0) work part)
-      → w₂ ≡ written 32 1 0 (heldOf n b w₁) w₁
-      → w₂ ≡ placedIn 1 0 (heldOf n b work) (placedIn 0 0 (heldOf n a work) (replicate machineCells 0 ++ drop machineCells work))
-  unfolding cleared
-  operands-are a b {part} {w₁} {w₂} e e₁ e₂ =
-      let zeros : length (midOf 0 (machineCells - 0) work) ≡ machineCells = mid-len 0 machineCells work (omega arith) in
-      let low : putMid 0 (machineCells - 0) work part ≡ cleared work = ap (λ (p : List ℕ). p ++ drop machineCells work) (e ∙ ap (λ (k : ℕ). replicate k 0) zeros) in
-      let one : w₁ ≡ written 32 0 0 (heldOf n a work) (cleared work) =
-      e₁ ∙ ap (λ (l : List ℕ). written 32 0 0 (heldOf n a l) l) low ∙ ap (λ (xs : List ℕ). written 32 0 0 xs (cleared work)) (slot-cleared a) in
+  pub operands-are : (a b : ℕ) {w₁ w₂ : List ℕ} → w₁ ≡ written 32 0 0 (heldOf n a work) work → w₂ ≡ written 32 1 0 (heldOf n b w₁) w₁
+      → w₂ ≡ placedIn 1 0 (heldOf n b work) (placedIn 0 0 (heldOf n a work) work)
+  operands-are a b {w₁} {w₂} e₁ e₂ =
       let held : heldOf n b w₁ ≡ heldOf n b work =
-      ap (heldOf n b) one ∙ slot-placed 0 b (heldOf n a work) (cleared work) (omega arith) (number-size n slotStep (slotAt a) work) ∙ slot-cleared b in
-      e₂ ∙ ap₂ (written 32 1 0) held (one ∙ written-placed 0 0 (heldOf n a work) (cleared work)) ∙ written-placed 1 0 (heldOf n b work) _
+      ap (heldOf n b) e₁ ∙ slot-placed 0 b (heldOf n a work) work (omega arith) (number-size n slotStep (slotAt a) work) in
+      e₂ ∙ ap₂ (written 32 1 0) held (e₁ ∙ written-placed 0 0 (heldOf n a work) work) ∙ written-placed 1 0 (heldOf n b work) _
 
 -- a plan run on the operands of slots a and b from place t of the tape on, and register 2 kept in slot k
 pub call-done : (o : Operation) (n k a b t : ℕ) (tape work : List ℕ) → Accepted n (planOf o) → k < 16 → a < 16 → b < 16 → length work ≡ 512
-    → t + foretoldTape n (planOf o) ≤ length tape → {w₁ w₂ w₃ : List ℕ} {next : ℕ}
-    → w₁ ≡ placedIn 1 0 (heldOf n b work) (placedIn 0 0 (heldOf n a work) (replicate machineCells 0 ++ drop machineCells work))
+    → t + foretoldTape n (planOf o) ≤ length tape → T (readsOnly (planOf o) (0 ∷ 1 ∷ [])) → T (memberOf (knownAfter (planOf o) (0 ∷ 1 ∷ [])) 2)
+    → {w₁ w₂ w₃ : List ℕ} {next : ℕ} → w₁ ≡ placedIn 1 0 (heldOf n b work) (placedIn 0 0 (heldOf n a work) work)
     → Ran (stepsOf (program n (planOf o))) tape t w₁ w₂ next
     → w₃ ≡ written slotStep (slotAt k) 0 (numberOf n 32 2 w₂) w₂
     → (next ≡ t + foretoldTape n (planOf o)) × HeldDone n (Call o k a b ∷ []) (drop t tape) work w₃
-call-done o n k a b t tape work A lk la lb size enough {w₁} {w₂} {w₃} {next} e₁ r e₃ =
+call-done o n k a b t tape work A lk la lb size enough reads writes {w₁} {w₂} {w₃} {next} e₁ r e₃ =
     let small = A .most in
-    let D = after-beside n (planOf o) (heldOf n a work) (heldOf n b work) tape (drop machineCells work) A
-    (omega (arith, number-size n slotStep (slotAt a) work)) (omega (arith, number-size n slotStep (slotAt b) work)) (omega (arith, length-drop machineCells work)) t enough e₁ r in
+    let D = after-beside n (planOf o) (heldOf n a work) (heldOf n b work) tape work A
+    (number-size n slotStep (slotAt a) work) (number-size n slotStep (slotAt b) work) size reads writes t enough e₁ r in
     (D .next, λ s H. kept s H D)
   where
     kept : (s : Slots (List ℕ)) → HeldIn n work s → After (planOf o) n (heldOf n a work) (heldOf n b work) tape (drop machineCells work) t w₂ next

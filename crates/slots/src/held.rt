@@ -1,16 +1,14 @@
 // Slots in the work slice: numbers held beside the cells of share programs. Share i of slot k is cell 352 + 16 i + k.
 ghost use mathlib.Core.Path.{_≡_};
-ghost use mathlib.Core.List.{_∷_, [], _++_};
+ghost use mathlib.Core.List.{_∷_, []};
 ghost use Prim.Native.Nat.{_≤_, _<_};
-ghost use lib.ListN.{drop, length, replicate};
-ghost use Rattle.execution.specs.Inner.{machineCells};
+ghost use lib.ListN.{length};
 ghost use Rattle.execution.specs.Shares.{placedIn};
 ghost use Rattle.complex.specs.Acts.{Flip, Put};
 ghost use Rattle.slots.specs.Inner.{HeldDone, heldOf};
 use crate::copies::copy;
 use crate::copies::copy_within;
 use complex::SIGN;
-use execution::work::clear;
 use word::step_word::StepWord;
 
 // The first cell that share programs do not use.
@@ -71,12 +69,11 @@ pub fn flip(n: usize, k: usize, work: &mut [u64])
     work[HELD + k] = work[HELD + k] ^ SIGN;
 }
 
-// Zeros in the cells of share programs, with the numbers of slots a and b in registers 0 and 1.
+// The numbers of slots a and b in registers 0 and 1.
 pub fn operands(n: usize, a: usize, b: usize, work: &mut [u64])
     requires { ⌜ (2 ≤ n) × (n ≤ 8) × (a < 16) × (b < 16) × (length (now work) ≡ 512) ⌝ }
-    ensures { λ _. ⌜ now (work .exit) ≡ placedIn 1 0 (heldOf n b (now (work .entry))) (placedIn 0 0 (heldOf n a (now (work .entry))) (replicate machineCells 0 ++ drop machineCells (now (work .entry)))) ⌝ }
+    ensures { λ _. ⌜ now (work .exit) ≡ placedIn 1 0 (heldOf n b (now (work .entry))) (placedIn 0 0 (heldOf n a (now (work .entry))) (now (work .entry))) ⌝ }
 {
-    clear(&mut work[0..HELD], StepWord::REGISTERS * n);
     copy_within(n, HELD + a, SLOTS, 0, StepWord::REGISTERS, work);
     copy_within(n, HELD + b, SLOTS, 1, StepWord::REGISTERS, work);
 }

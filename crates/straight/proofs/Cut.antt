@@ -9,7 +9,7 @@ use native.Mathlib.Omega.{arith}
 use lib.Dec.{T}
 use lib.ListN.{length, getD, drop, drop-of-length-le, List·getD-eq-default}
 use Rattle.word.specs.declared.step.Step.{Step}
-use Rattle.word.specs.Encoding.{planStep, isGood}
+use Rattle.word.specs.Encoding.{kindOf, planStep, isGood}
 use Rattle.word.proofs.Ranges.{both}
 use Rattle.masking.specs.Translation.{shares, wordsFor, program}
 use Rattle.masking.specs.Machine.{stepsOf}
@@ -31,15 +31,16 @@ abbrev pub allRuns : List (List ℕ) → Bool
 allRuns [] = true
 allRuns (r ∷ rs) = allLinear r && allRuns rs
 
-abbrev pub allGood : List ℕ → Bool
-allGood [] = true
-allGood (g ∷ gs) = isGood (planStep g) && allGood gs
+-- the words between are good, and of the kinds that `p` takes
+abbrev pub allGood : (ℕ → Bool) → List ℕ → Bool
+allGood p [] = true
+allGood p (g ∷ gs) = (isGood (planStep g) && p (kindOf g)) && allGood p gs
 
-pub record Cut (rs : List (List ℕ)) (last gs plan : List ℕ) : Type 0 where
+pub record Cut (p : ℕ → Bool) (rs : List (List ℕ)) (last gs plan : List ℕ) : Type 0 where
   pub whole : glue rs last gs ≡ plan
   pub runs : T (allRuns rs)
   pub final : T (allLinear last)
-  pub gates : T (allGood gs)
+  pub gates : T (allGood p gs)
   pub same : length rs ≡ length gs
 
 run-at : (rs : List (List ℕ)) (d : List ℕ) → T (allRuns rs) → T (allLinear d) → (k : ℕ) → T (allLinear (getD rs k d))
@@ -47,10 +48,12 @@ run-at [] d h l k = l
 run-at (r ∷ rs) d h l zero = both (allLinear r) (allRuns rs) h .0
 run-at (r ∷ rs) d h l (suc k) = run-at rs d (both (allLinear r) (allRuns rs) h .1) l k
 
-gate-at : (gs : List ℕ) → T (allGood gs) → (k : ℕ) → k < length gs → GoodPlanWord (getD gs k 0)
-gate-at [] h k l = absurd (omega arith)
-gate-at (g ∷ gs) h zero l = is-good (planStep g) (both (isGood (planStep g)) (allGood gs) h .0)
-gate-at (g ∷ gs) h (suc k) l = gate-at gs (both (isGood (planStep g)) (allGood gs) h .1) k (omega arith)
+gate-at : (p : ℕ → Bool) (gs : List ℕ) → T (allGood p gs) → (k : ℕ) → k < length gs → GoodPlanWord (getD gs k 0) × T (p (kindOf (getD gs k 0)))
+gate-at p [] h k l = absurd (omega arith)
+gate-at p (g ∷ gs) h zero l =
+    let e = both (isGood (planStep g)) (p (kindOf g)) (both (isGood (planStep g) && p (kindOf g)) (allGood p gs) h .0) in
+    (is-good (planStep g) (e .0), e .1)
+gate-at p (g ∷ gs) h (suc k) l = gate-at p gs (both (isGood (planStep g) && p (kindOf g)) (allGood p gs) h .1) k (omega arith)
 
 glue-turn : (rs : List (List ℕ)) (last gs : List ℕ) (k : ℕ) → length rs ≡ length gs → k < length gs
     → glue (drop k rs) last (drop k gs) ≡ getD rs k last ++ (getD gs k 0 ∷ glue (drop (suc k) rs) last (drop (suc k) gs))
@@ -60,7 +63,7 @@ glue-turn (r ∷ rs) last [] k e h = absurd (omega arith)
 glue-turn (r ∷ rs) last (g ∷ gs) zero e h = refl
 glue-turn (r ∷ rs) last (g ∷ gs) (suc k) e h = glue-turn rs last gs k (omega arith) (omega arith)
 
-module _ {rs : List (List ℕ)} {last gs plan : List ℕ} (C : Cut rs last gs plan) (n : ℕ) where
+module _ {p : ℕ → Bool} {rs : List (List ℕ)} {last gs plan : List ℕ} (C : Cut p rs last gs plan) (n : ℕ) where
   -- what is left from run k on
   abbrev pub from : ℕ → List Step
   from k = stepsOf (program n (glue (drop k rs) last (drop k gs)))
@@ -87,11 +90,8 @@ module _ {rs : List (List ℕ)} {last gs plan : List ℕ} (C : Cut rs last gs pl
   pub linear-at : (k : ℕ) → T (allLinear (getD rs k last))
   linear-at = run-at rs last (C .runs) (C .final)
 
-  pub good-at : (k : ℕ) → k < length gs → GoodPlanWord (getD gs k 0)
-  good-at = gate-at gs (C .gates)
-
-  pub good-gate : (k : ℕ) → k < length gs → {g : ℕ} → g ≡ getD gs k 0 → GoodPlanWord g
-  good-gate k h e = subst GoodPlanWord (sym e) (good-at k h)
+  pub good-gate : (k : ℕ) → k < length gs → {g : ℕ} → g ≡ getD gs k 0 → GoodPlanWord g × T (p (kindOf g))
+  good-gate k h e = subst (λ (g : ℕ). GoodPlanWord g × T (p (kindOf g))) (sym e) (gate-at p gs (C .gates) k h)
 
   module _ (least : 2 ≤ n) (most : n ≤ 8) {tape : List ℕ} {ss : List Step} {s : ℕ} {c₀ : List ℕ} where
     -- run k done

@@ -9,7 +9,7 @@ ghost use Rattle.gadgets.specs.Effects.{Enough, Ran};
 ghost use Rattle.plans.specs.FloorPlan.{floorPlan};
 use crate::runs::gate;
 use crate::runs::run;
-use blocks::plan_word::word_done;
+use blocks::gates::and_done;
 
 pub mod calls;
 pub mod in_place;
@@ -25,7 +25,7 @@ pub fn done(n: usize, tape: &[u64], start: usize, cells: &mut [u64]) -> usize
     let mut k = 0;
     while k < 12 {
         run(k, n, cells);
-        t = word_done(gate(k), n, tape, t, cells);
+        t = and_done(gate(k), n, tape, t, cells);
         k += 1;
     }
     run(k, n, cells);

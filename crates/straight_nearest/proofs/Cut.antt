@@ -4,7 +4,7 @@ use mathlib.Core.Path.{_≡_, refl}
 use mathlib.Core.List.{[], _∷_}
 use Prim.Native.Nat.{_-_, _*_}
 use native.Mathlib.Omega.{arith}
-use lib.Dec.{T}
+use lib.Dec.{eqb, T}
 use Rattle.word.specs.Encoding.{named, put}
 use Rattle.word.specs.Encoding as encoding
 use Rattle.word.specs.Layout.{tapeOf}
@@ -16,7 +16,7 @@ use Rattle.plans.specs.NearestPlan.{nearestPlan}
 use Rattle.straight.proofs.Cut.{Cut}
 use Rattle.straight_nearest.specs.Runs.{gates, lastRun, runs}
 
-pub cut : Cut runs lastRun gates nearestPlan
+pub cut : Cut (λ k. eqb k 3) runs lastRun gates nearestPlan
 unfolding nearestPlan put named encoding.row
 cut = record { whole = refl; runs = tt; final = tt; gates = tt; same = refl }
 

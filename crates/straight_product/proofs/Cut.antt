@@ -13,10 +13,11 @@ use Rattle.masking.specs.Reads.{knownAfter, memberOf, readsOnly}
 use Rattle.masking.proofs.emitted.Counts.{by-count}
 use Rattle.execution.specs.Inner.{GoodPlan, TakesTape}
 use Rattle.plans.specs.ProductPlan.{productPlan, productHead, carryRow, productRow, productRows, withExponents, highHalf, normalise, sticky, tests, roundPack, choose, productEnd, productTail, productSteps}
+use Rattle.blocks.specs.PlanWords.{isGate}
 use Rattle.straight.proofs.Cut.{Cut}
 use Rattle.straight_product.specs.Runs.{gates, lastRun, runs}
 
-pub cut : Cut runs lastRun gates productPlan
+pub cut : Cut isGate runs lastRun gates productPlan
 unfolding productPlan productHead carryRow productRow productRows withExponents highHalf normalise sticky tests roundPack choose productEnd productTail productSteps put named encoding.row
 cut = record { whole = refl; runs = tt; final = tt; gates = tt; same = refl }
 

@@ -13,10 +13,11 @@ use Rattle.masking.specs.Reads.{knownAfter, memberOf, readsOnly}
 use Rattle.masking.proofs.emitted.Counts.{by-count}
 use Rattle.execution.specs.Inner.{GoodPlan, TakesTape}
 use Rattle.plans.specs.SumPlan.{sumPlan}
+use Rattle.blocks.specs.PlanWords.{isGate}
 use Rattle.straight.proofs.Cut.{Cut}
 use Rattle.straight_sum.specs.Runs.{gates, lastRun, runs}
 
-pub cut : Cut runs lastRun gates sumPlan
+pub cut : Cut isGate runs lastRun gates sumPlan
 unfolding sumPlan put named encoding.row
 cut = record { whole = refl; runs = tt; final = tt; gates = tt; same = refl }
 

@@ -3,6 +3,7 @@
 use mathlib.Core.Path.{_∙_}
 use Prim.Native.Nat.{_+_, _-_, _≤_}
 use native.Mathlib.Omega.{arith}
+use lib.Dec.{eqb→eq}
 use borrow.Author.Needs.{needs}
 use Rattle.word.specs.Encoding.{planStep}
 use Rattle.masking.specs.Machine.{stepsOf}
@@ -26,21 +27,22 @@ loop-holds c = (omega arith, renamed (from-start cut (c .before .before .args .n
 run-requires : tie.Need-run-requires Inv-loop μ-loop
 run-requires c κs = let s = c .before .before .before .before .before in (s .pre .0 .1, c .before .before .loop .inv .1 .size ∙ s .pre .0 .2)
 
-word-done-requires : tie.Need-word-done-requires Inv-loop μ-loop
-word-done-requires c κs =
+and-done-requires : tie.Need-and-done-requires Inv-loop μ-loop
+and-done-requires c κs =
     let v = c .before .before .before .before .before .before .before in
     let s = v .before .before .before in
     let g = c .before .gate in
     let n = s .args .n in
     let l = after-run cut n (s .pre .0 .0) (s .pre .0 .1) (v .loop .k) (omega arith) (v .loop .inv .1) (c .before .before .before .before .run .ensures) (g .ensures) in
-    ((good-gate cut n (v .loop .k) (omega arith) (g .ensures), s .pre .0 .0, s .pre .0 .1, l .size ∙ s .pre .0 .2), enough (stepsOf (wordsFor n (planStep (g .result)))) (from cut n (v .loop .k + 1)) l (s .pre .1))
+    let G = good-gate cut n (v .loop .k) (omega arith) (g .ensures) in
+    ((G .0, s .pre .0 .0, s .pre .0 .1, l .size ∙ s .pre .0 .2, eqb→eq _ 3 (G .1)), enough (stepsOf (wordsFor n (planStep (g .result)))) (from cut n (v .loop .k + 1)) l (s .pre .1))
 
 loop-again : tie.Need-loop-again Inv-loop μ-loop
 loop-again c =
     let v = c .before .before .before .before .before .before .before .before .before .before in
     let s = v .before .before .before in
     let l = after-run cut (s .args .n) (s .pre .0 .0) (s .pre .0 .1) (v .loop .k) (omega arith) (v .loop .inv .1) (c .before .before .before .before .before .before .before .run .ensures) (c .before .before .before .before .gate .ensures) in
-    (omega arith, part _ _ l (c .before .before .word-done .ensures))
+    (omega arith, part _ _ l (c .before .before .and-done .ensures))
 
 run-requires-2 : tie.Need-run-requires-2 Inv-loop μ-loop
 run-requires-2 c κs = let s = c .before .before .before .before .before in (s .pre .0 .1, c .before .before .loop .inv .1 .size ∙ s .pre .0 .2)
@@ -54,5 +56,5 @@ returns c =
 pub done-spec : {M : Type 1} → statement M
 done-spec =
     tie.close
-    (tie.spec Inv-loop μ-loop loop-holds run-requires (λ c κs. omega arith) word-done-requires (λ c. omega arith) (λ c. omega arith) loop-again
+    (tie.spec Inv-loop μ-loop loop-holds run-requires (λ c κs. omega arith) and-done-requires (λ c. omega arith) (λ c. omega arith) loop-again
     run-requires-2 (λ c. search needs) returns)

@@ -6,6 +6,7 @@ use Rattle.plans.specs.BuiltIns.{planOf}
 use Rattle.plans.proofs.BuiltIns.{built-ins}
 use Rattle.operations.proofs.Joined.{accepted}
 use Rattle.execution.proofs.Beside.{enough-from}
+use Rattle.straight_sum.proofs.Cut.{reads, writes}
 use Rattle.slots.proofs.Operands.{call-done}
 use Rattle.slots.proofs.calls.add.Statement.{statement}
 use Rattle.slots.proofs.calls.add.Tie as tie
@@ -22,7 +23,7 @@ returns c =
     let s = c .before .before .before .before .before .before .before .before .before .before .before .before .before .before in
     let g = s .args in
     let A = accepted (planOf Sum) _ (built-ins Sum .computes) (g .n) (s .pre .0) (s .pre .1) in
-    call-done Sum (g .n) (g .k) (g .a) (g .b) (g .start) (now (g .tape)) (now (g .work)) A (s .pre .2) (s .pre .3) (s .pre .4) (s .pre .5) (s .pre .6)
+    call-done Sum (g .n) (g .k) (g .a) (g .b) (g .start) (now (g .tape)) (now (g .work)) A (s .pre .2) (s .pre .3) (s .pre .4) (s .pre .5) (s .pre .6) reads writes
     (c .before .before .before .before .before .before .before .before .before .before .operands .ensures)
     (c .before .before .before .before .before .before .done .ensures)
     (c .before .before .copy-within .ensures)
