@@ -29,11 +29,12 @@ def texts(folder):
 
 def files_of(plan):
     """the crate's files: the texts with the plan's parts put in"""
-    common = {path: text for path, text in texts(TEXTS).items() if path.split(os.sep)[0] not in ("of_one", "own")}
+    common = {path: text for path, text in texts(TEXTS).items() if path.split(os.sep)[0] not in ("of_one", "own", "with_add")}
     of_one = texts(os.path.join(TEXTS, "of_one")) if plan.operands == 1 else {}
     own = texts(os.path.join(TEXTS, "own")) if plan.own else {}
+    with_add = texts(os.path.join(TEXTS, "with_add")) if plan.adds() else {}
     put_in = parts(plan) | {"OF_ONE": of_one.pop("src/calls.rt", ""), "OF_ONE_IN_PLACE": of_one.pop("src/in_place.rt", "")}
-    files = common | of_one | own
+    files = common | of_one | own | with_add
     for name, part in put_in.items():
         files = {path: text.replace(f"@{name}@", part) for path, text in files.items()}
     for name in ("WRITTEN", "PLAN", "CRATE", "TITLE", "MODULE"):  # they stand in the parts too

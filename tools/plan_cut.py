@@ -120,6 +120,9 @@ class Plan:
         self.units = sum(1 if word >> 28 == AND else 12 for word in self.gates)
         self.same = next((k for k, word in enumerate(self.gates) if word != self.gates[0]), len(self.gates))
 
+    def adds(self):
+        return any(word >> 28 == ADD for word in self.gates)
+
     def calls(self, arm):
         """the calls of an arm: a function's name and its words, or None for the word with the number"""
         if arm.place is None:

@@ -1,5 +1,4 @@
 """The parts of a compiled plan's crate that depend on its words, for the texts in tools/straight: lists, arms of matches, and what the proof of a match says arm by arm."""
-from plan_cut import AND
 
 WRITTEN = "Written by tools/compile_plan.py: change the plan or the compiler, not this file."
 WIDTH = 100  # of a line of code, as rt fmt breaks it
@@ -20,11 +19,13 @@ def parts(plan):
 
 def gate_kind(plan):
     """a plan without ADD links none"""
-    if all(word >> 28 == AND for word in plan.gates):
+    if not plan.adds():
         return {"GATE_DONE": "and_done", "GATE_NAME": "and-done", "GATE_KIND": "(λ k. eqb k 3)", "KIND_USE": "", "KIND_EQB": "eqb, ",
-                "SHOW_KIND": "eqb→eq _ 3 (G .1)", "SHOW_USE": "use lib.Dec.{eqb→eq}\n"}
+                "SHOW_KIND": "eqb→eq _ 3 (G .1)", "SHOW_USE": "use lib.Dec.{eqb→eq}\n", "GATE_MOD": "",
+                "GATE_USE": "use crate::runs::gate;\nuse crate::runs::run;\nuse blocks::gates::and_done;\n"}
     return {"GATE_DONE": "gate_done", "GATE_NAME": "gate-done", "GATE_KIND": "isGate", "KIND_USE": "use Rattle.blocks.specs.PlanWords.{isGate}\n",
-            "KIND_EQB": "", "SHOW_KIND": "G .1", "SHOW_USE": ""}
+            "KIND_EQB": "", "SHOW_KIND": "G .1", "SHOW_USE": "", "GATE_MOD": "mod gates;\n",
+            "GATE_USE": "use crate::gates::gate_done;\nuse crate::runs::gate;\nuse crate::runs::run;\n"}
 
 
 def listed(words):

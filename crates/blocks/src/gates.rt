@@ -2,13 +2,12 @@
 // not bad.
 ghost use mathlib.Core.Path.{_≡_};
 ghost use Prim.Native.Nat.{_≤_};
-ghost use lib.Dec.{T};
 ghost use lib.ListN.{length};
 ghost use Rattle.word.specs.Encoding.{kindOf, planStep};
 ghost use Rattle.masking.specs.Translation.{wordsFor};
 ghost use Rattle.masking.specs.Machine.{stepsOf};
 ghost use Rattle.gadgets.specs.Effects.{Enough, Ran};
-ghost use Rattle.blocks.specs.PlanWords.{GoodPlanWord, isGate};
+ghost use Rattle.blocks.specs.PlanWords.{GoodPlanWord};
 use crate::add::add_shares;
 use gadgets::once::Place;
 use masked_and::and::and_of_registers;
@@ -37,7 +36,7 @@ pub fn and_done(w: u32, n: usize, tape: &[u64], t: usize, cells: &mut [u64]) -> 
 }
 
 // An ADD word's, likewise.
-fn add_done(w: u32, n: usize, tape: &[u64], t: usize, cells: &mut [u64]) -> usize
+pub fn add_done(w: u32, n: usize, tape: &[u64], t: usize, cells: &mut [u64]) -> usize
     requires { ⌜ GoodPlanWord w × (2 ≤ n) × (n ≤ 8) × (length (now cells) ≡ 512) × (kindOf w ≡ 8) ⌝ }
     requires { ⌜ Enough (now tape) t (stepsOf (wordsFor n (planStep w))) ⌝ }
     ensures { λ r. ⌜ Ran (stepsOf (wordsFor n (planStep w))) (now (tape .entry)) t (now (cells .entry)) (now (cells .exit)) r ⌝ }
@@ -46,16 +45,4 @@ fn add_done(w: u32, n: usize, tape: &[u64], t: usize, cells: &mut [u64]) -> usiz
     let a = register((w >> StepWord::A_AT) % StepWord::FIELD);
     let b = register(w % StepWord::FIELD);
     add_shares(d, a, b, n, tape, t, cells)
-}
-
-// An AND or ADD word's, likewise.
-pub fn gate_done(w: u32, n: usize, tape: &[u64], t: usize, cells: &mut [u64]) -> usize
-    requires { ⌜ GoodPlanWord w × (2 ≤ n) × (n ≤ 8) × (length (now cells) ≡ 512) × T (isGate (kindOf w)) ⌝ }
-    requires { ⌜ Enough (now tape) t (stepsOf (wordsFor n (planStep w))) ⌝ }
-    ensures { λ r. ⌜ Ran (stepsOf (wordsFor n (planStep w))) (now (tape .entry)) t (now (cells .entry)) (now (cells .exit)) r ⌝ }
-{
-    if w >> StepWord::KIND_AT == StepWord::AND {
-        return and_done(w, n, tape, t, cells);
-    }
-    add_done(w, n, tape, t, cells)
 }

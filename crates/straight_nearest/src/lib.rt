@@ -23,11 +23,12 @@ pub fn done(n: usize, tape: &[u64], start: usize, cells: &mut [u64]) -> usize
 {
     let mut t = start;
     let mut k = 0;
-    while k < 14 {
+    loop {
         run(k, n, cells);
+        if k == 14 {
+            return t;
+        }
         t = and_done(gate(k), n, tape, t, cells);
         k += 1;
     }
-    run(k, n, cells);
-    t
 }

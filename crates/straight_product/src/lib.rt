@@ -7,11 +7,12 @@ ghost use Rattle.masking.specs.Machine.{stepsOf};
 ghost use Rattle.masking.specs.Translation.{program};
 ghost use Rattle.gadgets.specs.Effects.{Enough, Ran};
 ghost use Rattle.plans.specs.ProductPlan.{productPlan};
+use crate::gates::gate_done;
 use crate::runs::gate;
 use crate::runs::run;
-use blocks::gates::gate_done;
 
 pub mod calls;
+mod gates;
 pub mod in_place;
 mod runs;
 
@@ -23,11 +24,12 @@ pub fn done(n: usize, tape: &[u64], start: usize, cells: &mut [u64]) -> usize
 {
     let mut t = start;
     let mut k = 0;
-    while k < 67 {
+    loop {
         run(k, n, cells);
+        if k == 67 {
+            return t;
+        }
         t = gate_done(gate(k), n, tape, t, cells);
         k += 1;
     }
-    run(k, n, cells);
-    t
 }

@@ -1,8 +1,9 @@
--- `blocks::gates::gate_done` meets its contract.
+-- Written by tools/compile_plan.py: change the plan or the compiler, not this file.
+-- `straight_sum::gates::gate_done` meets its contract.
 use borrow.Author.Needs.{needs}
 use Rattle.blocks.proofs.ByField.{not-and}
-use Rattle.blocks.proofs.gates.gate_done.Statement.{statement}
-use Rattle.blocks.proofs.gates.gate_done.Tie as tie
+use Rattle.straight_sum.proofs.gates.gate_done.Statement.{statement}
+use Rattle.straight_sum.proofs.gates.gate_done.Tie as tie
 
 add-done-requires : tie.Need-add-done-requires
 add-done-requires c κs =
