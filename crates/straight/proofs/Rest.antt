@@ -1,4 +1,4 @@
--- What a match on 0, 1, .. leaves for its last arm. Assumes nothing.
+-- Which numbers a match leaves for its arm without a key (after the keys 0, 1, .., or between keys), and which run or word of a list stands at them. Assumes nothing.
 use mathlib.Core.Path.{_≡_, refl, ap, _∙_}
 use mathlib.Core.Logic.{_≢_}
 use mathlib.Core.List.{List, [], _∷_, _++_, map}
