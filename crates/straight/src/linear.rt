@@ -5,29 +5,31 @@ ghost use Prim.Native.Nat.{_+_, _%_, _<_};
 ghost use lib.ListN.{length};
 ghost use Rattle.word.specs.Encoding.{kindOf};
 ghost use Rattle.straight.specs.OnShare.{linearWord, onShare, onShareAll};
+use word::step_word::StepWord;
 
-// The word of share i of d, from those of a and b.
+// The word of share i of d, from those of a and b. The last arm is SPREAD.
 fn value(w: u32, i: usize, x: u64, y: u64) -> u64
     ensures { λ r. ⌜ r ≡ linearWord w i x y ⌝ }
 {
-    let kind = w >> 28;
+    let kind = w >> StepWord::KIND_AT;
     match kind {
-        1 => {
+        StepWord::CONST => {
             if i == 0 {
-                return (w % 262144) as u64;
+                return (w % StepWord::NUMBERS) as u64;
             }
             0
         }
-        2 => x ^ y,
-        4 => {
+        StepWord::XOR => x ^ y,
+        StepWord::NOT => {
             if i == 0 {
                 return !x;
             }
+            // A copy: the translation's step for these shares is SHL by 0.
             x << 0
         }
-        5 => x << (w % 64),
-        6 => x >> (w % 64),
-        _ => (x % 2) * 18446744073709551615,
+        StepWord::SHL => x << (w % StepWord::SHIFTS),
+        StepWord::SHR => x >> (w % StepWord::SHIFTS),
+        _ => (x % 2) * u64::MAX,
     }
 }
 
@@ -36,10 +38,10 @@ pub fn linear(w: u32, i: usize, cells: &mut [u64])
     requires { ⌜ (i < 8) × (length (now cells) ≡ 512) ⌝ }
     ensures { λ _. ⌜ now (cells .exit) ≡ onShare i w (now (cells .entry)) ⌝ }
 {
-    let s = 32 * i;
-    let d = s + ((w >> 18) % 32) as usize;
-    let a = s + ((w >> 9) % 32) as usize;
-    let b = s + (w % 32) as usize;
+    let s = StepWord::REGISTERS * i;
+    let d = s + ((w >> StepWord::D_AT) % StepWord::PLAN_CELLS) as usize;
+    let a = s + ((w >> StepWord::A_AT) % StepWord::PLAN_CELLS) as usize;
+    let b = s + (w % StepWord::PLAN_CELLS) as usize;
     cells[d] = value(w, i, cells[a], cells[b]);
 }
 
@@ -115,8 +117,8 @@ pub fn shifted(w: u32, q: u32, i: usize, cells: &mut [u64])
     requires { ⌜ (kindOf w ≡ 6) × (w % 512 ≡ 0) × (q < 64) × (i < 8) × (length (now cells) ≡ 512) ⌝ }
     ensures { λ _. ⌜ now (cells .exit) ≡ onShare i (w + q) (now (cells .entry)) ⌝ }
 {
-    let s = 32 * i;
-    let d = s + ((w >> 18) % 32) as usize;
-    let a = s + ((w >> 9) % 32) as usize;
+    let s = StepWord::REGISTERS * i;
+    let d = s + ((w >> StepWord::D_AT) % StepWord::PLAN_CELLS) as usize;
+    let a = s + ((w >> StepWord::A_AT) % StepWord::PLAN_CELLS) as usize;
     cells[d] = cells[a] >> q;
 }
