@@ -1,5 +1,6 @@
 -- The blocks of a translation by the places of their registers (Named), and plan words by kind (Words), AND and ADD over registers
--- that are their fields (ByField).
+-- that are their fields (ByField), and ADD's rounds by their shifts (Rounds).
 pub mod Named
 pub mod Words
 pub mod ByField
+pub mod Rounds

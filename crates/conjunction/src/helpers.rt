@@ -4,36 +4,17 @@ ghost use Prim.Native.Nat.{_≤_};
 ghost use lib.ListN.{length};
 ghost use Rattle.masking.specs.Translation.{andBlock, scratch};
 ghost use Rattle.gadgets.specs.Effects.{Enough, Ran, Register, at, placed};
-use gadgets::copies::copy_in;
-use gadgets::copies::copy_out;
-use gadgets::copies::diagonal;
+use crate::halves::first_half;
+use crate::halves::second_half;
 use gadgets::once::Place;
-use gadgets::wipe::wipe;
-use pairings::helper_crosses::cross_helpers_3;
-use pairings::helper_crosses::cross_helpers_4;
-use pairings::helper_crosses::cross_helpers_5;
-use pairings::helper_crosses::cross_helpers_6;
-use pairings::helper_crosses::cross_helpers_7;
-use pairings::helper_crosses::cross_helpers_8;
-use pairings::refreshes::refresh_3;
-use pairings::refreshes::refresh_4;
-use pairings::refreshes::refresh_5;
-use pairings::refreshes::refresh_6;
-use pairings::refreshes::refresh_7;
-use pairings::refreshes::refresh_8;
 
 fn and_helpers_3(d: Place, a: usize, b: usize, tape: &[u64], t: usize, cells: &mut [u64]) -> usize
     requires { ⌜ (length (now cells) ≡ 512) × Register d × Register (placed a 8) × Register (placed b 8) ⌝ }
     requires { ⌜ Enough (now tape) t (andBlock scratch 3 (at d) (at (placed a 8)) (at (placed b 8))) ⌝ }
     ensures { λ r. ⌜ Ran (andBlock scratch 3 (at d) (at (placed a 8)) (at (placed b 8))) (now (tape .entry)) t (now (cells .entry)) (now (cells .exit)) r ⌝ }
 {
-    copy_in(b, 8, 3, cells);
-    let t = refresh_3(tape, t, cells);
-    diagonal(a, 8, 3, cells);
-    let t = cross_helpers_3(a, tape, t, cells);
-    copy_out(d, 3, cells);
-    wipe(3, cells);
-    t
+    let t = first_half(a, b, 8, 3, tape, t, cells);
+    second_half(d, a, 8, 3, tape, t, cells)
 }
 
 fn and_helpers_4(d: Place, a: usize, b: usize, tape: &[u64], t: usize, cells: &mut [u64]) -> usize
@@ -41,13 +22,8 @@ fn and_helpers_4(d: Place, a: usize, b: usize, tape: &[u64], t: usize, cells: &m
     requires { ⌜ Enough (now tape) t (andBlock scratch 4 (at d) (at (placed a 8)) (at (placed b 8))) ⌝ }
     ensures { λ r. ⌜ Ran (andBlock scratch 4 (at d) (at (placed a 8)) (at (placed b 8))) (now (tape .entry)) t (now (cells .entry)) (now (cells .exit)) r ⌝ }
 {
-    copy_in(b, 8, 4, cells);
-    let t = refresh_4(tape, t, cells);
-    diagonal(a, 8, 4, cells);
-    let t = cross_helpers_4(a, tape, t, cells);
-    copy_out(d, 4, cells);
-    wipe(4, cells);
-    t
+    let t = first_half(a, b, 8, 4, tape, t, cells);
+    second_half(d, a, 8, 4, tape, t, cells)
 }
 
 fn and_helpers_5(d: Place, a: usize, b: usize, tape: &[u64], t: usize, cells: &mut [u64]) -> usize
@@ -55,13 +31,8 @@ fn and_helpers_5(d: Place, a: usize, b: usize, tape: &[u64], t: usize, cells: &m
     requires { ⌜ Enough (now tape) t (andBlock scratch 5 (at d) (at (placed a 8)) (at (placed b 8))) ⌝ }
     ensures { λ r. ⌜ Ran (andBlock scratch 5 (at d) (at (placed a 8)) (at (placed b 8))) (now (tape .entry)) t (now (cells .entry)) (now (cells .exit)) r ⌝ }
 {
-    copy_in(b, 8, 5, cells);
-    let t = refresh_5(tape, t, cells);
-    diagonal(a, 8, 5, cells);
-    let t = cross_helpers_5(a, tape, t, cells);
-    copy_out(d, 5, cells);
-    wipe(5, cells);
-    t
+    let t = first_half(a, b, 8, 5, tape, t, cells);
+    second_half(d, a, 8, 5, tape, t, cells)
 }
 
 fn and_helpers_6(d: Place, a: usize, b: usize, tape: &[u64], t: usize, cells: &mut [u64]) -> usize
@@ -69,13 +40,8 @@ fn and_helpers_6(d: Place, a: usize, b: usize, tape: &[u64], t: usize, cells: &m
     requires { ⌜ Enough (now tape) t (andBlock scratch 6 (at d) (at (placed a 8)) (at (placed b 8))) ⌝ }
     ensures { λ r. ⌜ Ran (andBlock scratch 6 (at d) (at (placed a 8)) (at (placed b 8))) (now (tape .entry)) t (now (cells .entry)) (now (cells .exit)) r ⌝ }
 {
-    copy_in(b, 8, 6, cells);
-    let t = refresh_6(tape, t, cells);
-    diagonal(a, 8, 6, cells);
-    let t = cross_helpers_6(a, tape, t, cells);
-    copy_out(d, 6, cells);
-    wipe(6, cells);
-    t
+    let t = first_half(a, b, 8, 6, tape, t, cells);
+    second_half(d, a, 8, 6, tape, t, cells)
 }
 
 fn and_helpers_7(d: Place, a: usize, b: usize, tape: &[u64], t: usize, cells: &mut [u64]) -> usize
@@ -83,13 +49,8 @@ fn and_helpers_7(d: Place, a: usize, b: usize, tape: &[u64], t: usize, cells: &m
     requires { ⌜ Enough (now tape) t (andBlock scratch 7 (at d) (at (placed a 8)) (at (placed b 8))) ⌝ }
     ensures { λ r. ⌜ Ran (andBlock scratch 7 (at d) (at (placed a 8)) (at (placed b 8))) (now (tape .entry)) t (now (cells .entry)) (now (cells .exit)) r ⌝ }
 {
-    copy_in(b, 8, 7, cells);
-    let t = refresh_7(tape, t, cells);
-    diagonal(a, 8, 7, cells);
-    let t = cross_helpers_7(a, tape, t, cells);
-    copy_out(d, 7, cells);
-    wipe(7, cells);
-    t
+    let t = first_half(a, b, 8, 7, tape, t, cells);
+    second_half(d, a, 8, 7, tape, t, cells)
 }
 
 fn and_helpers_8(d: Place, a: usize, b: usize, tape: &[u64], t: usize, cells: &mut [u64]) -> usize
@@ -97,13 +58,8 @@ fn and_helpers_8(d: Place, a: usize, b: usize, tape: &[u64], t: usize, cells: &m
     requires { ⌜ Enough (now tape) t (andBlock scratch 8 (at d) (at (placed a 8)) (at (placed b 8))) ⌝ }
     ensures { λ r. ⌜ Ran (andBlock scratch 8 (at d) (at (placed a 8)) (at (placed b 8))) (now (tape .entry)) t (now (cells .entry)) (now (cells .exit)) r ⌝ }
 {
-    copy_in(b, 8, 8, cells);
-    let t = refresh_8(tape, t, cells);
-    diagonal(a, 8, 8, cells);
-    let t = cross_helpers_8(a, tape, t, cells);
-    copy_out(d, 8, cells);
-    wipe(8, cells);
-    t
+    let t = first_half(a, b, 8, 8, tape, t, cells);
+    second_half(d, a, 8, 8, tape, t, cells)
 }
 
 // Three shares and more.

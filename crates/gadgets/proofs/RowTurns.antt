@@ -1,6 +1,6 @@
--- A turn of AND's loops over the pairs of a share: what the code does, with y_i or z_i in a local, brings the row's share steps forward by a pair. Rests on
+-- The refresh of a pair, and a turn of AND's loop over the pairs of a share: what the code does, with z_i in a local, brings the row's share steps forward by a pair. Rests on
 -- OnPairs, Likeness and Toward.
-use mathlib.Core.Path.{_≡_, refl, sym, ap, ap₂, _∙_, subst}
+use mathlib.Core.Path.{_≡_, refl, sym, ap, ap₂, _∙_}
 use mathlib.Core.Logic.{_≢_}
 use mathlib.Core.List.{List, [], _∷_}
 use Prim.Native.Nat.{ℕ, _+_, _-_, _<_}
@@ -20,16 +20,9 @@ use Rattle.gadgets.proofs.OnPairs.{pair, in-row, refresh-pair, cross-pa
 
 -- ---- the tape words of a row
 module _ (i : ℕ) where
-  refresh-words : (js : List ℕ) → randsOf (refresh scratch (pairsOf i js)) ≡ length js
-  refresh-words [] = refl
-  refresh-words (j ∷ js) = omega (arith, refresh-words js)
-
   products-words : (a : ℕ → ℕ) (js : List ℕ) → randsOf (products scratch a (pairsOf i js)) ≡ length js
   products-words a [] = refl
   products-words a (j ∷ js) = omega (arith, products-words a js)
-
-  pub refresh-row-words : (j c : ℕ) → randsOf (refresh scratch (pairsOf i (upFrom j c))) ≡ c
-  refresh-row-words j c = refresh-words (upFrom j c) ∙ length-from j c
 
   pub products-row-words : (a : ℕ → ℕ) (j c : ℕ) → randsOf (products scratch a (pairsOf i (upFrom j c))) ≡ c
   products-row-words a j c = products-words a (upFrom j c) ∙ length-from j c
@@ -59,24 +52,6 @@ module _ (i j : ℕ) (ij : i < j) (j8 : j < 8) (tape : List ℕ) (t : ℕ) where
         cells = λ k e. alike-as (refresh-alike e) (refresh-pair i j ij j8 k tape t (sym (same-size e) ∙ size) .cells);
         place = omega arith;
       }
-
-  module _ (c : List ℕ) (size : length c ≡ 512) (y : ℕ) where
-    -- y_i in a local
-    abbrev heldY : List ℕ
-    heldY = set c (256 + i) y
-
-    refreshed-held : refreshedY i j r heldY ≡ set (set c (256 + j) (xorW (getD c (256 + j) 0) r)) (256 + i) (xorW y r)
-    refreshed-held =
-        ap₂ (λ (u v : ℕ). set (set heldY (256 + i) (xorW u r)) (256 + j) (xorW v r)) (getD-set-same c (256 + i) y 0 (omega arith)) (getD-set-other c (256 + i) (256 + j) y 0 (λ e. omega arith))
-        ∙ ap (λ (l : List ℕ). set l (256 + j) (xorW (getD c (256 + j) 0) r)) (set-set c (256 + i) y (xorW y r))
-        ∙ set-comm c (256 + i) (256 + j) (xorW y r) (xorW (getD c (256 + j) 0) r) (λ e. omega arith)
-
-    pub refresh-turn : {ss : List Step} {t₀ : ℕ} {c₀ : List ℕ} (n : ℕ) → j < n → Toward tape ss t₀ c₀ (refresh scratch (pairsOf i (upFrom j (n - j)))) t heldY
-        → Toward tape ss t₀ c₀ (refresh scratch (pairsOf i (upFrom (j + 1) (n - (j + 1))))) (t + 1) (set (set c (256 + j) (xorW (getD c (256 + j) 0) r)) (256 + i) (xorW y r))
-    refresh-turn {ss} {t₀} {c₀} n jn l =
-        subst (λ (k : List ℕ). Toward tape ss t₀ c₀ (refresh scratch (pairsOf i (upFrom (j + 1) (n - (j + 1))))) (t + 1) k) refreshed-held
-        (part (refresh scratch (pair i j ∷ [])) (refresh scratch (pairsOf i (upFrom (j + 1) (n - (j + 1)))))
-        (renamed (in-row (refresh scratch) refl (λ p ps. refl) i j n jn) l) (refresh-near heldY (length-set c (256 + i) y ∙ size)))
 
   -- ---- cross products
   module _ (A : Place) (R : Register A) where

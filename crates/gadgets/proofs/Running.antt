@@ -59,9 +59,6 @@ module _ {tape : List ℕ} {ss : List Step} {t : ℕ} {cells : List ℕ} where
   pub last : {t' t'' : ℕ} {cells' cells'' : List ℕ} (us : List Step) → Left tape ss t cells us t' cells' → Ran us tape t' cells' cells'' t'' → Ran ss tape t cells cells'' t''
   last us l r = whole (part us [] (renamed (sym (append-nil us)) l) r)
 
-  pub last-enough : {t' : ℕ} {cells' : List ℕ} (us : List Step) → Left tape ss t cells us t' cells' → Enough tape t ss → Enough tape t' us
-  last-enough us l e = enough us [] (renamed (sym (append-nil us)) l) e
-
 -- the same of blocks
 module _ (n : ℕ) {tape : List ℕ} {all : List Step} {t : ℕ} {cells : List ℕ} {t' : ℕ} {cells' : List ℕ} (ss ts : List Step) (l : Left tape all t cells (blocks scratch n (ss ++ ts)) t' cells') where
   apart : Left tape all t cells (blocks scratch n ss ++ blocks scratch n ts) t' cells'

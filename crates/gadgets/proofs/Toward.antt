@@ -28,9 +28,6 @@ still-near tape t none h = record { cells = h (drop t tape); place = omega (arit
 pub near-size : {tape : List ℕ} {ss : List Step} {t : ℕ} {cells cells' : List ℕ} {t' : ℕ} → Nearly ss tape t cells cells' t' → length cells' ≡ length cells
 near-size {tape} {ss} {t} {cells} r = same-size (r .cells cells (itself cells)) ∙ exec-steps-size ss (drop t tape) cells
 
-pub still-size : {cells cells' : List ℕ} (ss : List Step) → NearlyStill ss cells cells' → length cells' ≡ length cells
-still-size {cells} {cells'} ss h = same-size (h [] cells (itself cells)) ∙ exec-steps-size ss [] cells
-
 pub joined : {tape : List ℕ} {t t' t'' : ℕ} {c c' c'' : List ℕ} (us ts : List Step) → Nearly us tape t c c' t' → Nearly ts tape t' c' c'' t'' → Nearly (us ++ ts) tape t c c'' t''
 joined {tape} {t} {t'} us ts r s =
     record {

@@ -1,14 +1,14 @@
 -- What the contracts of inner functions say: a plan word's share steps done straight on the cells.
 -- Nothing here has to be believed: the contracts of the public calls do not cite it.
 use mathlib.Core.Path.{_≡_}
-use mathlib.Core.List.{List, map}
-use Prim.Native.Nat.{ℕ, _+_, _*_, _≤_, _<_}
+use mathlib.Core.List.{List, [], _∷_, _++_, map}
+use Prim.Native.Nat.{ℕ, zero, suc, _+_, _-_, _*_, _≤_, _<_}
 use lib.ListN.{length, getD, set, drop}
-use Rattle.bits.specs.Ops.{xorW, andW, notW, shlW, shrW, spreadW}
+use Rattle.bits.specs.Ops.{xorW, andW, shlW}
 use Rattle.word.specs.declared.step.Step.{Step}
-use Rattle.word.specs.declared.step.Step.the-variants.{Const, Xor, And, Not, Shl, Shr, Spread}
+use Rattle.word.specs.declared.step.Step.the-variants.{Xor, And, Shl}
 use Rattle.masking.specs.Machine.{execSteps, randsOf}
-use Rattle.masking.specs.Translation.{shares}
+use Rattle.masking.specs.Translation.{pairs, products, refresh, scratch, scratchCells, shares, wiping}
 use Rattle.gadgets.specs.declared.once.Place.{Place}
 use Rattle.gadgets.specs.declared.once.Op.{Op}
 use Rattle.gadgets.specs.declared.once.Op.the-variants as op
@@ -93,6 +93,11 @@ pub record Nearly (ss : List Step) (tape : List ℕ) (t : ℕ) (before after : L
 abbrev pub NearlyStill : List Step → List ℕ → List ℕ → Type 0
 NearlyStill ss before after = (tape c : List ℕ) → Alike before c → Alike after (execSteps ss tape c)
 
+-- steps after which t and u no longer show what they held
+pub record Wholly (ss : List Step) (tape : List ℕ) (t : ℕ) (before after : List ℕ) (next : ℕ) : Type 0 where
+  pub cells : (c : List ℕ) → Alike before c → after ≡ execSteps ss (drop t tape) c
+  pub place : next ≡ t + randsOf ss
+
 -- b's shares copied to y
 abbrev pub copyIn : ℕ → (ℕ → ℕ) → List Step
 copyIn n b = map (λ i. Shl (256 + i) (b i) 0) (shares n)
@@ -105,6 +110,13 @@ diagonal n a = map (λ i. And (264 + i) (a i) (256 + i)) (shares n)
 abbrev pub copyOut : ℕ → (ℕ → ℕ) → List Step
 copyOut n d = map (λ i. Shl (d i) (264 + i) 0) (shares n)
 
+-- AND in two halves
+abbrev pub firstHalf : ℕ → (ℕ → ℕ) → (ℕ → ℕ) → List Step
+firstHalf n a b = (copyIn n b ++ refresh scratch (pairs (shares n))) ++ diagonal n a
+
+abbrev pub secondHalf : ℕ → (ℕ → ℕ) → (ℕ → ℕ) → List Step
+secondHalf n d a = (products scratch a (pairs (shares n)) ++ copyOut n d) ++ wiping (scratchCells scratch n)
+
 -- the cells after the refresh of one pair by the word r, and after its products behind r, t and u left alone
 abbrev pub refreshedY : ℕ → ℕ → ℕ → List ℕ → List ℕ
 refreshedY i j r cells = set (set cells (256 + i) (xorW (getD cells (256 + i) 0) r)) (256 + j) (xorW (getD cells (256 + j) 0) r)
@@ -113,3 +125,25 @@ abbrev pub crossedZ : ℕ → ℕ → ℕ → ℕ → ℕ → List ℕ → List 
 crossedZ p q i j r cells =
     let w = xorW (xorW r (andW (getD cells p 0) (getD cells (256 + j) 0))) (andW (getD cells q 0) (getD cells (256 + i) 0)) in
     set (set cells (264 + i) (xorW (getD cells (264 + i) 0) r)) (264 + j) (xorW (getD cells (264 + j) 0) w)
+
+-- ---- y share by share: b_k behind the fresh words of its pairs, which lie in rows, each shorter by one than the row before
+
+-- the words of rows of m, m - 1, .. 1
+abbrev pub rowWords : ℕ → ℕ
+rowWords zero = 0
+rowWords (suc m) = suc m + rowWords m
+
+-- y behind the m words from place p on
+abbrev pub behindRow : List ℕ → ℕ → ℕ → ℕ → ℕ
+behindRow tape zero p y = y
+behindRow tape (suc m) p y = behindRow tape m (p + 1) (xorW y (getD tape p 0))
+
+-- y behind a word of each of c rows, the first with m words from place p on, and behind all words of the row after them
+abbrev pub behind : List ℕ → ℕ → ℕ → ℕ → ℕ → ℕ
+behind tape zero m p y = behindRow tape m p y
+behind tape (suc c) m p y = behind tape c (m - 1) (p + m) (xorW y (getD tape (p + c) 0))
+
+-- the cells after that for shares of b, one after the other
+abbrev pub freshly : List ℕ → ℕ → ℕ → (ℕ → ℕ) → List ℕ → List ℕ → List ℕ
+freshly tape t n b [] cells = cells
+freshly tape t n b (k ∷ ks) cells = freshly tape t n b ks (set cells (256 + k) (behind tape k (n - 1) t (getD cells (b k) 0)))

@@ -1,26 +1,12 @@
-// What AND does once per share: b copied into y, products of the same share into z, z copied out to d. Called with a constant n, and with a
+// What AND does once per share: products of the same share into z, z copied out to d. Called with a constant n, and with a
 // constant distance `over` between an operand's shares, the loops are straight code.
 ghost use mathlib.Core.Path.{_≡_};
 ghost use Prim.Native.Nat.{_≤_};
 ghost use lib.ListN.{length};
-ghost use Rattle.gadgets.specs.Effects.{NearlyStill, Register, at, copyIn, copyOut, diagonal, placed};
+ghost use Rattle.gadgets.specs.Effects.{NearlyStill, Register, at, copyOut, diagonal, placed};
 use crate::once::Place;
 use crate::scratch::Y;
 use crate::scratch::Z;
-
-// y_i = b_i, which are the cells from b on, `over` apart.
-pub fn copy_in(b: usize, over: usize, n: usize, cells: &mut [u64])
-    requires { ⌜ (n ≤ 8) × (length (now cells) ≡ 512) × Register (placed b over) ⌝ }
-    ensures { λ _. ⌜ NearlyStill (copyIn n (at (placed b over))) (now (cells .entry)) (now (cells .exit)) ⌝ }
-{
-    let mut q = b;
-    let mut i = 0;
-    while i < n {
-        cells[Y + i] = cells[q];
-        q += over;
-        i += 1;
-    }
-}
 
 // z_i = a_i AND y_i.
 pub fn diagonal(a: usize, over: usize, n: usize, cells: &mut [u64])

@@ -1,35 +1,15 @@
-// What AND does for the pairs of a share with those above it. Called with constants for i, n and over, the loops are straight code.
+// The second half of AND: the cross products of its pairs of shares. Called with constants for n and over, the loops are straight code.
 ghost use mathlib.Core.Path.{_≡_};
 ghost use Prim.Native.Nat.{_+_, _-_, _≤_, _<_};
 ghost use lib.ListN.{length};
-ghost use Rattle.masking.specs.Translation.{pairsOf, products, refresh, scratch, upFrom};
+ghost use Rattle.masking.specs.Translation.{pairs, pairsOf, products, scratch, shares, upFrom};
 ghost use Rattle.gadgets.specs.Effects.{Enough, Nearly, Register, at, placed};
 use crate::scratch::T;
 use crate::scratch::Y;
 use crate::scratch::Z;
 
-// A fresh word into y_i and y_j for each j above i.
-pub fn refresh_row(i: usize, n: usize, tape: &[u64], t: usize, cells: &mut [u64]) -> usize
-    requires { ⌜ (i < n) × (n ≤ 8) × (length (now cells) ≡ 512) ⌝ }
-    requires { ⌜ Enough (now tape) t (refresh scratch (pairsOf i (upFrom (i + 1) (n - (i + 1))))) ⌝ }
-    ensures { λ r. ⌜ Nearly (refresh scratch (pairsOf i (upFrom (i + 1) (n - (i + 1))))) (now (tape .entry)) t (now (cells .entry)) (now (cells .exit)) r ⌝ }
-{
-    let mut t = t;
-    let mut j = i + 1;
-    let mut y = cells[Y + i];
-    while j < n {
-        let r = tape[t];
-        y = y ^ r;
-        cells[Y + j] = cells[Y + j] ^ r;
-        t += 1;
-        j += 1;
-    }
-    cells[Y + i] = y;
-    t
-}
-
 // The cross products of a and y for each j above i into z_i and z_j, behind a fresh word.
-pub fn cross_row(
+fn cross_row(
     a: usize,
     over: usize,
     i: usize,
@@ -60,5 +40,20 @@ pub fn cross_row(
         j += 1;
     }
     cells[Z + i] = z;
+    t
+}
+
+// Those of every pair of shares, row by row, from place t of the tape on; the answer is the next place.
+pub fn crosses(a: usize, over: usize, n: usize, tape: &[u64], t: usize, cells: &mut [u64]) -> usize
+    requires { ⌜ (n ≤ 8) × (length (now cells) ≡ 512) × Register (placed a over) ⌝ }
+    requires { ⌜ Enough (now tape) t (products scratch (at (placed a over)) (pairs (shares n))) ⌝ }
+    ensures { λ r. ⌜ Nearly (products scratch (at (placed a over)) (pairs (shares n))) (now (tape .entry)) t (now (cells .entry)) (now (cells .exit)) r ⌝ }
+{
+    let mut t = t;
+    let mut i = 0;
+    while i < n {
+        t = cross_row(a, over, i, n, tape, t, cells);
+        i += 1;
+    }
     t
 }

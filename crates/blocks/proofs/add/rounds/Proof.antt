@@ -1,128 +1,63 @@
--- `blocks::add::rounds` meets its contract.
+-- `blocks::add::rounds` meets its contract. Rests on Rounds for what is left before a round, and on gadgets' Running for steps done in parts.
 use mathlib.Core.Path.{_∙_}
-use mathlib.Core.List.{_++_}
-use Prim.Native.Nat.{_+_, _-_}
+use mathlib.Core.List.{List, _++_}
+use mathlib.Core.Logic.{⊎-elim}
+use Prim.Native.Nat.{_-_}
 use native.Mathlib.Omega.{arith}
-use denote.Ref.{now}
 use borrow.Author.Needs.{needs}
-use Rattle.masking.specs.Translation.{scratch, blocks, generated, round, rounds}
-use Rattle.gadgets.proofs.Running.{start, last, last-enough, blocks-part, blocks-enough}
+use borrow.Author.Tests.{lt-ltb, le-ltb}
+use Rattle.word.specs.declared.step.Step.{Step}
+use Rattle.masking.specs.Translation.{scratch, blocks, generated, passed, rounds}
+use Rattle.gadgets.proofs.Running.{Left, start, blocks-part, blocks-enough}
+use Rattle.blocks.proofs.Rounds.{passing, Rest, first, bounds, next, final}
 use Rattle.blocks.proofs.add.rounds.Statement.{statement}
 use Rattle.blocks.proofs.add.rounds.Tie as tie
 
-round-requires : tie.Need-round-requires
-round-requires c κs =
-    let g = c .before .before .before .args in
-    let n = g .n in
-    let tape = now (g .tape) in
-    let r₅ = round 16 ++ generated 32 in
-    let r₄ = round 8 ++ r₅ in
-    let r₃ = round 4 ++ r₄ in
-    let r₂ = round 2 ++ r₃ in
-    let l₀ = start tape (blocks scratch n rounds) (g .t) (now (g .cells)) in
-    ((omega arith, c .before .before .before .pre .0 .0, l₀ .size ∙ c .before .before .before .pre .0 .1, c .before .before .before .pre .0 .2, c .before .before .before .pre .0 .3, c .before .before .before .pre .0 .4), blocks-enough n (round 1) r₂ l₀ (c .before .before .before .pre .1))
+abbrev Inv-loop : tie.InvT-loop
+Inv-loop a b n tape t cells₀ t₀ k₀ cells t' k = (ts : List Step) × Rest k ts × Left tape (blocks scratch n rounds) t cells₀ (blocks scratch n ts) t' cells
 
-round-requires-2 : tie.Need-round-requires-2
-round-requires-2 c κs =
-    let g = c .before .before .before .before .before .before .before .args in
-    let n = g .n in
-    let tape = now (g .tape) in
-    let r₅ = round 16 ++ generated 32 in
-    let r₄ = round 8 ++ r₅ in
-    let r₃ = round 4 ++ r₄ in
-    let r₂ = round 2 ++ r₃ in
-    let l₀ = start tape (blocks scratch n rounds) (g .t) (now (g .cells)) in
-    let l₁ = blocks-part n (round 1) r₂ l₀ (c .before .before .before .round .ensures) in
-    ((omega arith, c .before .before .before .before .before .before .before .pre .0 .0, l₁ .size ∙ c .before .before .before .before .before .before .before .pre .0 .1, c .before .before .before .before .before .before .before .pre .0 .2, c .before .before .before .before .before .before .before .pre .0 .3, c .before .before .before .before .before .before .before .pre .0 .4), blocks-enough n (round 2) r₃ l₁ (c .before .before .before .before .before .before .before .pre .1))
+abbrev μ-loop : tie.MeasureT-loop
+μ-loop a b n tape t cells₀ t₀ k₀ cells t' k = 64 - k
 
-round-requires-3 : tie.Need-round-requires-3
-round-requires-3 c κs =
-    let g = c .before .before .before .before .before .before .before .before .before .before .before .args in
-    let n = g .n in
-    let tape = now (g .tape) in
-    let r₅ = round 16 ++ generated 32 in
-    let r₄ = round 8 ++ r₅ in
-    let r₃ = round 4 ++ r₄ in
-    let r₂ = round 2 ++ r₃ in
-    let l₀ = start tape (blocks scratch n rounds) (g .t) (now (g .cells)) in
-    let l₁ = blocks-part n (round 1) r₂ l₀ (c .before .before .before .before .before .before .before .round .ensures) in
-    let l₂ = blocks-part n (round 2) r₃ l₁ (c .before .before .before .round2 .ensures) in
-    ((omega arith, c .before .before .before .before .before .before .before .before .before .before .before .pre .0 .0, l₂ .size ∙ c .before .before .before .before .before .before .before .before .before .before .before .pre .0 .1, c .before .before .before .before .before .before .before .before .before .before .before .pre .0 .2, c .before .before .before .before .before .before .before .before .before .before .before .pre .0 .3, c .before .before .before .before .before .before .before .before .before .before .before .pre .0 .4), blocks-enough n (round 4) r₄ l₂ (c .before .before .before .before .before .before .before .before .before .before .before .pre .1))
-
-round-requires-4 : tie.Need-round-requires-4
-round-requires-4 c κs =
-    let g = c .before .before .before .before .before .before .before .before .before .before .before .before .before .before .before .args in
-    let n = g .n in
-    let tape = now (g .tape) in
-    let r₅ = round 16 ++ generated 32 in
-    let r₄ = round 8 ++ r₅ in
-    let r₃ = round 4 ++ r₄ in
-    let r₂ = round 2 ++ r₃ in
-    let l₀ = start tape (blocks scratch n rounds) (g .t) (now (g .cells)) in
-    let l₁ = blocks-part n (round 1) r₂ l₀ (c .before .before .before .before .before .before .before .before .before .before .before .round .ensures) in
-    let l₂ = blocks-part n (round 2) r₃ l₁ (c .before .before .before .before .before .before .before .round2 .ensures) in
-    let l₃ = blocks-part n (round 4) r₄ l₂ (c .before .before .before .round3 .ensures) in
-    ((omega arith, c .before .before .before .before .before .before .before .before .before .before .before .before .before .before .before .pre .0 .0, l₃ .size ∙ c .before .before .before .before .before .before .before .before .before .before .before .before .before .before .before .pre .0 .1, c .before .before .before .before .before .before .before .before .before .before .before .before .before .before .before .pre .0 .2, c .before .before .before .before .before .before .before .before .before .before .before .before .before .before .before .pre .0 .3, c .before .before .before .before .before .before .before .before .before .before .before .before .before .before .before .pre .0 .4), blocks-enough n (round 8) r₅ l₃ (c .before .before .before .before .before .before .before .before .before .before .before .before .before .before .before .pre .1))
-
-round-requires-5 : tie.Need-round-requires-5
-round-requires-5 c κs =
-    let g = c .before .before .before .before .before .before .before .before .before .before .before .before .before .before .before .before .before .before .before .args in
-    let n = g .n in
-    let tape = now (g .tape) in
-    let r₅ = round 16 ++ generated 32 in
-    let r₄ = round 8 ++ r₅ in
-    let r₃ = round 4 ++ r₄ in
-    let r₂ = round 2 ++ r₃ in
-    let l₀ = start tape (blocks scratch n rounds) (g .t) (now (g .cells)) in
-    let l₁ = blocks-part n (round 1) r₂ l₀ (c .before .before .before .before .before .before .before .before .before .before .before .before .before .before .before .round .ensures) in
-    let l₂ = blocks-part n (round 2) r₃ l₁ (c .before .before .before .before .before .before .before .before .before .before .before .round2 .ensures) in
-    let l₃ = blocks-part n (round 4) r₄ l₂ (c .before .before .before .before .before .before .before .round3 .ensures) in
-    let l₄ = blocks-part n (round 8) r₅ l₃ (c .before .before .before .round4 .ensures) in
-    ((omega arith, c .before .before .before .before .before .before .before .before .before .before .before .before .before .before .before .before .before .before .before .pre .0 .0, l₄ .size ∙ c .before .before .before .before .before .before .before .before .before .before .before .before .before .before .before .before .before .before .before .pre .0 .1, c .before .before .before .before .before .before .before .before .before .before .before .before .before .before .before .before .before .before .before .pre .0 .2, c .before .before .before .before .before .before .before .before .before .before .before .before .before .before .before .before .before .before .before .pre .0 .3, c .before .before .before .before .before .before .before .before .before .before .before .before .before .before .before .before .before .before .before .pre .0 .4), blocks-enough n (round 16) (generated 32) l₄ (c .before .before .before .before .before .before .before .before .before .before .before .before .before .before .before .before .before .before .before .pre .1))
-
-generated-requires : tie.Need-generated-requires
+generated-requires : tie.Need-generated-requires Inv-loop μ-loop
 generated-requires c κs =
-    let g = c .before .before .before .before .before .before .before .before .before .before .before .before .before .before .before .before .before .before .before .before .before .before .before .args in
-    let n = g .n in
-    let tape = now (g .tape) in
-    let r₅ = round 16 ++ generated 32 in
-    let r₄ = round 8 ++ r₅ in
-    let r₃ = round 4 ++ r₄ in
-    let r₂ = round 2 ++ r₃ in
-    let l₀ = start tape (blocks scratch n rounds) (g .t) (now (g .cells)) in
-    let l₁ = blocks-part n (round 1) r₂ l₀ (c .before .before .before .before .before .before .before .before .before .before .before .before .before .before .before .before .before .before .before .round .ensures) in
-    let l₂ = blocks-part n (round 2) r₃ l₁ (c .before .before .before .before .before .before .before .before .before .before .before .before .before .before .before .round2 .ensures) in
-    let l₃ = blocks-part n (round 4) r₄ l₂ (c .before .before .before .before .before .before .before .before .before .before .before .round3 .ensures) in
-    let l₄ = blocks-part n (round 8) r₅ l₃ (c .before .before .before .before .before .before .before .round4 .ensures) in
-    let l₅ = blocks-part n (round 16) (generated 32) l₄ (c .before .before .before .round5 .ensures) in
-    ((omega arith, c .before .before .before .before .before .before .before .before .before .before .before .before .before .before .before .before .before .before .before .before .before .before .before .pre .0 .0, l₅ .size ∙ c .before .before .before .before .before .before .before .before .before .before .before .before .before .before .before .before .before .before .before .before .before .before .before .pre .0 .1, c .before .before .before .before .before .before .before .before .before .before .before .before .before .before .before .before .before .before .before .before .before .before .before .pre .0 .2, c .before .before .before .before .before .before .before .before .before .before .before .before .before .before .before .before .before .before .before .before .before .before .before .pre .0 .3, c .before .before .before .before .before .before .before .before .before .before .before .before .before .before .before .before .before .before .before .before .before .before .before .pre .0 .4), last-enough (blocks scratch n (generated 32)) l₅ (c .before .before .before .before .before .before .before .before .before .before .before .before .before .before .before .before .before .before .before .before .before .before .before .pre .1))
+    let s = c .before .before .before .before .before in
+    let v = c .before .before .loop in
+    let N = next (s .args .n) (v .inv .1) (v .inv .2) (c .before .loop-test .taken) in
+    ((omega arith, s .pre .0 .0, N .2 .size ∙ s .pre .0 .1, s .pre .0 .2, s .pre .0 .3, s .pre .0 .4), blocks-enough (s .args .n) (generated (v .k)) (passing (v .k) ++ N .0) (N .2) (s .pre .1))
 
-returns : tie.Need-returns
-returns c =
-    let g = c .before .before .before .before .before .before .before .before .before .before .before .before .before .before .before .before .before .before .before .before .before .before .before .before .before .before .args in
-    let n = g .n in
-    let tape = now (g .tape) in
-    let r₅ = round 16 ++ generated 32 in
-    let r₄ = round 8 ++ r₅ in
-    let r₃ = round 4 ++ r₄ in
-    let r₂ = round 2 ++ r₃ in
-    let l₀ = start tape (blocks scratch n rounds) (g .t) (now (g .cells)) in
-    let l₁ = blocks-part n (round 1) r₂ l₀ (c .before .before .before .before .before .before .before .before .before .before .before .before .before .before .before .before .before .before .before .before .before .before .round .ensures) in
-    let l₂ = blocks-part n (round 2) r₃ l₁ (c .before .before .before .before .before .before .before .before .before .before .before .before .before .before .before .before .before .before .round2 .ensures) in
-    let l₃ = blocks-part n (round 4) r₄ l₂ (c .before .before .before .before .before .before .before .before .before .before .before .before .before .before .round3 .ensures) in
-    let l₄ = blocks-part n (round 8) r₅ l₃ (c .before .before .before .before .before .before .before .before .before .before .round4 .ensures) in
-    let l₅ = blocks-part n (round 16) (generated 32) l₄ (c .before .before .before .before .before .before .round5 .ensures) in
-    last (blocks scratch n (generated 32)) l₅ (c .before .before .generated .ensures)
+passed-requires : tie.Need-passed-requires Inv-loop μ-loop
+passed-requires c κs =
+    let g = c .before .before .before .before in
+    let w = g .before .before in
+    let s = w .before .before .before .before in
+    let n = s .args .n in
+    let v = w .before .loop in
+    let N = next n (v .inv .1) (v .inv .2) (w .loop-test .taken) in
+    let l = blocks-part n (generated (v .k)) (passing (v .k) ++ N .0) (N .2) (g .generated .ensures) in
+    ((omega arith, s .pre .0 .0, l .size ∙ s .pre .0 .1, s .pre .0 .2, s .pre .0 .3, s .pre .0 .4), blocks-enough n (passed (v .k)) (N .0) (rw (lt-ltb (v .k) 32 (c .before .if1 .taken)) at l) (s .pre .1))
+
+-- by the branch's arms: `passed` is done, or was not to do
+loop-again : tie.Need-loop-again Inv-loop μ-loop
+loop-again c =
+    let g = c .before .before .before in
+    let w = g .before .before in
+    let n = w .before .before .before .before .args .n in
+    let v = w .before .loop in
+    let N = next n (v .inv .1) (v .inv .2) (w .loop-test .taken) in
+    let l = blocks-part n (generated (v .k)) (passing (v .k) ++ N .0) (N .2) (g .generated .ensures) in (
+      N .0,
+      N .1,
+      ⊎-elim
+          (λ x. rw (x .5, x .6) (blocks-part n (passed (v .k)) (N .0) (rw (lt-ltb (v .k) 32 (x .0 .taken)) at l) (x .2 .ensures)))
+          (λ x. rw (x .1, x .2) (rw (le-ltb (v .k) 32 (x .0 .left)) at l))
+          (c .if1 .came),
+    )
 
 pub rounds-spec : {M : Type 1} → statement M
 rounds-spec =
     tie.close
-    (tie.spec
-    round-requires
-    round-requires-2
-    round-requires-3
-    round-requires-4
-    round-requires-5
-    generated-requires
-    (λ c. search needs)
-    returns)
+    (tie.spec Inv-loop μ-loop (λ c. (rounds, first, start _ _ _ _)) generated-requires passed-requires (λ c. search needs)
+    (λ c. omega (arith, bounds (c .before .before .before .before .before .before .loop .inv .1)))
+    loop-again (λ c. c .before .loop .inv .2 .size)
+    (λ c. final (c .before .before .before .before .args .n) (c .before .loop .inv .1) (c .before .loop .inv .2) (c .loop-test .left)))

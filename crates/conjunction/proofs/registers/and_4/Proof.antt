@@ -1,65 +1,28 @@
--- `conjunction::registers::and_4` meets its contract: AND's parts for 4 shares.
-use mathlib.Core.Path.{_∙_}
+-- `conjunction::registers::and_4` meets its contract: AND's halves for 4 shares.
+use borrow.Author.Needs.{needs}
 use denote.Ref.{now}
 use lib.Dec.{lit≤}
-use Rattle.gadgets.specs.Effects.{at, copyIn, copyOut, diagonal, placed}
-use Rattle.gadgets.proofs.Toward.{near-size, still-size}
-use Rattle.conjunction.proofs.Parts.{fresh-enough, cross-enough, and-done, ran-size}
+use Rattle.gadgets.specs.Effects.{at, placed}
+use Rattle.conjunction.proofs.Parts.{fresh-enough, second-enough, halves-done}
 use Rattle.conjunction.proofs.registers.and_4.Statement.{statement}
 use Rattle.conjunction.proofs.registers.and_4.Tie as tie
 
-copy-in-requires : tie.Need-copy-in-requires
-copy-in-requires c κs = let s = c .before .before .before in (lit≤ tt, s .pre .0 .0, s .pre .0 .3)
+first-half-requires : tie.Need-first-half-requires
+first-half-requires c κs =
+    let s = c .before .before .before in
+    let g = s .args in
+    ((lit≤ tt, lit≤ tt, s .pre .0 .0, s .pre .0 .2, s .pre .0 .3), fresh-enough 4 (at (g .d)) (at (placed (g .a) 32)) (at (placed (g .b) 32)) (now (g .tape)) (g .t) (s .pre .1))
 
-refresh-4-requires : tie.Need-refresh-4-requires
-refresh-4-requires c κs =
+second-half-requires : tie.Need-second-half-requires
+second-half-requires c κs =
     let s = c .before .before .before .before .before .before .before in
     let g = s .args in
-    (still-size (copyIn 4 (at (placed (g .b) 32))) (c .before .before .before .copy-in .ensures) ∙ s .pre .0 .0, fresh-enough 4 (at (g .d)) (at (placed (g .a) 32)) (at (placed (g .b) 32)) (now (g .tape)) (g .t) (s .pre .1))
-
-diagonal-requires : tie.Need-diagonal-requires
-diagonal-requires c κs =
-    let s = c .before .before .before .before .before .before .before .before .before .before .before in
-    let g = s .args in
-    (lit≤ tt, near-size (c .before .before .before .refresh-4 .ensures) ∙ still-size (copyIn 4 (at (placed (g .b) 32))) (c .before .before .before .before .before .before .before .copy-in .ensures) ∙ s .pre .0 .0, s .pre .0 .2)
-
-cross-4-requires : tie.Need-cross-4-requires
-cross-4-requires c κs =
-    let s = c .before .before .before .before .before .before .before .before .before .before .before .before .before .before .before in
-    let g = s .args in
-    ((still-size (diagonal 4 (at (placed (g .a) 32))) (c .before .before .before .diagonal .ensures) ∙ near-size (c .before .before .before .before .before .before .before .refresh-4 .ensures) ∙ still-size (copyIn 4 (at (placed (g .b) 32))) (c .before .before .before .before .before .before .before .before .before .before .before .copy-in .ensures) ∙ s .pre .0 .0, s .pre .0 .2), cross-enough 4 (at (g .d)) (at (placed (g .a) 32)) (at (placed (g .b) 32)) (now (g .tape)) (g .t) (s .pre .1) (c .before .before .before .before .before .before .before .refresh-4 .ensures))
-
-copy-out-requires : tie.Need-copy-out-requires
-copy-out-requires c κs =
-    let s = c .before .before .before .before .before .before .before .before .before .before .before .before .before .before .before .before .before .before .before in
-    let g = s .args in
-    (lit≤ tt, near-size (c .before .before .before .cross-4 .ensures) ∙ still-size (diagonal 4 (at (placed (g .a) 32))) (c .before .before .before .before .before .before .before .diagonal .ensures) ∙ near-size (c .before .before .before .before .before .before .before .before .before .before .before .refresh-4 .ensures) ∙ still-size (copyIn 4 (at (placed (g .b) 32))) (c .before .before .before .before .before .before .before .before .before .before .before .before .before .before .before .copy-in .ensures) ∙ s .pre .0 .0, s .pre .0 .1)
-
-wipe-requires : tie.Need-wipe-requires
-wipe-requires c κs =
-    let s = c .before .before .before .before .before .before .before .before .before .before .before .before .before .before .before .before .before .before .before .before .before .before .before in
-    let g = s .args in
-    (lit≤ tt, still-size (copyOut 4 (at (g .d))) (c .before .before .before .copy-out .ensures) ∙ near-size (c .before .before .before .before .before .before .before .cross-4 .ensures) ∙ still-size (diagonal 4 (at (placed (g .a) 32))) (c .before .before .before .before .before .before .before .before .before .before .before .diagonal .ensures) ∙ near-size (c .before .before .before .before .before .before .before .before .before .before .before .before .before .before .before .refresh-4 .ensures) ∙ still-size (copyIn 4 (at (placed (g .b) 32))) (c .before .before .before .before .before .before .before .before .before .before .before .before .before .before .before .before .before .before .before .copy-in .ensures) ∙ s .pre .0 .0)
+    ((lit≤ tt, search needs, s .pre .0 .1, s .pre .0 .2), second-enough 4 (at (g .d)) (at (placed (g .a) 32)) (at (placed (g .b) 32)) (now (g .tape)) (g .t) (s .pre .1) (c .before .before .before .first-half .ensures))
 
 returns : tie.Need-returns
 returns c =
-    let g = c .before .before .before .before .before .before .before .before .before .before .before .before .before .before .before .before .before .before .before .before .before .before .before .before .before .before .args in
-    and-done 4 (at (g .d)) (at (placed (g .a) 32)) (at (placed (g .b) 32)) (now (g .tape)) (g .t)
-    (c .before .before .before .before .before .before .before .before .before .before .before .before .before .before .before .before .before .before .before .before .before .before .copy-in .ensures) (c .before .before .before .before .before .before .before .before .before .before .before .before .before .before .before .before .before .before .refresh-4 .ensures) (c .before .before .before .before .before .before .before .before .before .before .before .before .before .before .diagonal .ensures)
-    (c .before .before .before .before .before .before .before .before .before .before .cross-4 .ensures) (c .before .before .before .before .before .before .copy-out .ensures) (c .before .before .wipe .ensures)
-
-same-length : tie.Need-same-length
-same-length c = ran-size (returns c)
+    let g = c .before .before .before .before .before .before .before .before .before .before .args in
+    halves-done 4 (at (g .d)) (at (placed (g .a) 32)) (at (placed (g .b) 32)) (now (g .tape)) (g .t) (c .before .before .before .before .before .before .first-half .ensures) (c .before .before .second-half .ensures)
 
 pub and-4-spec : {M : Type 1} → statement M
-and-4-spec =
-    tie.close
-    (tie.spec
-    copy-in-requires
-    refresh-4-requires
-    diagonal-requires
-    cross-4-requires
-    copy-out-requires
-    wipe-requires
-    same-length
-    returns)
+and-4-spec = tie.close (tie.spec first-half-requires second-half-requires (λ c. search needs) returns)

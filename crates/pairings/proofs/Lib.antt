@@ -1,2 +1,0 @@
--- AND's pairs row by row (InRows).
-pub mod InRows
