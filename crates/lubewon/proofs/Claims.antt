@@ -10,6 +10,7 @@ use Rattle.masking.proofs.Leaks as leaks
 use Rattle.masking.proofs.WipedFirst as wiped-first
 use Rattle.masking.proofs.EveryShare as every-share
 use Rattle.masking.proofs.Examples as examples
+use Rattle.masking.proofs.joined.Known as known
 use Rattle.translation.proofs.Tied as tied
 use Rattle.binary64.proofs.Meaning as meaning
 use Rattle.binary64.proofs.FloorMeaning as floor-meaning
@@ -45,6 +46,7 @@ claims =
       unrefreshed-leaks = leaks.unrefreshed-leaks;
       wiped-first-zero = wiped-first.wiped-first-zero;
       every-share-wrong = every-share.every-share-wrong;
+      known-decide = known.known-decide;
       rounding-means = meaning.rounding-means;
       floor-means = floor-meaning.floor-means;
       truncate-means = whole-meaning.truncate-means;

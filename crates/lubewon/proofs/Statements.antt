@@ -13,12 +13,12 @@ use Rattle.bits.specs.Adder.{adder}
 use Rattle.word.specs.declared.step.Step.{Step}
 use Rattle.word.specs.declared.step.Decoded.{Decoded}
 use Rattle.word.specs.Encoding.{planStep, inPlan, inProgram}
-use Rattle.word.specs.Layout.{lengthOf, tapeOf, programMax}
+use Rattle.word.specs.Layout.{cell, lengthOf, tapeOf, programMax}
 use Rattle.word.specs.Parts.{OfParts, OfNone}
 use Rattle.checks.specs.Answers.{FirstBad, firstBad}
 use Rattle.masking.specs.Translation.{scratch, scratchCells, program}
 use Rattle.masking.specs.Foretold.{Accepted, foretoldTape, foretoldWords}
-use Rattle.masking.specs.Machine.{Start, execSteps}
+use Rattle.masking.specs.Machine.{Start, exec, execSteps}
 use Rattle.masking.specs.Unsplit.{joined}
 use Rattle.masking.specs.Counts.{StepCounts, PlanCounts}
 use Rattle.masking.specs.Secrecy.{Secret, Hidden}
@@ -26,6 +26,7 @@ use Rattle.masking.specs.Demand3.{InARow}
 use Rattle.masking.specs.Leaks.{Leak}
 use Rattle.masking.specs.WipedFirst.{wipedFirst}
 use Rattle.masking.specs.EveryShare.{JoinsWrongly}
+use Rattle.masking.specs.Reads.{knownAfter, memberOf, readsOnly}
 use Rattle.translation.specs.Calls.{measured, translateAnswer}
 use Rattle.translation.specs.Tied.{Tied}
 use Rattle.binary64.specs.Number.{sign, expo, frac, magnitude}
@@ -138,6 +139,11 @@ module _ (C : Claims) where
 
   every-share : JoinsWrongly 2 × JoinsWrongly 4 × JoinsWrongly 6 × JoinsWrongly 8
   every-share = C .every-share-wrong
+
+  known-decide : (n : ℕ) → n ≤ 8 → (plan known tape c c′ : List ℕ) → T (readsOnly plan known) → length c ≡ 512 → length c′ ≡ 512
+      → ((i r : ℕ) → i < n → r < 32 → T (memberOf known r) → getD c (cell i r) 0 ≡ getD c′ (cell i r) 0)
+      → (i r : ℕ) → i < n → r < 32 → T (memberOf (knownAfter plan known) r) → getD (exec (program n plan) tape c) (cell i r) 0 ≡ getD (exec (program n plan) tape c′) (cell i r) 0
+  known-decide = C .known-decide
 
   rounded : (u M : ℕ) → 52 ≤ u → 2 ^ u ≤ M → Rounded u M (magBits u M)
   rounded = C .rounding-means

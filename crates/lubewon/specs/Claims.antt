@@ -12,6 +12,7 @@ use Rattle.masking.specs.Leaks.{UnrefreshedLeaks}
 use Rattle.masking.specs.WipedFirst.{WipedFirstZero}
 use Rattle.masking.specs.EveryShare.{EveryShareWrong}
 use Rattle.masking.specs.Examples.{TranslationExamples}
+use Rattle.masking.specs.Reads.{KnownDecide}
 use Rattle.translation.specs.Tied.{TranslateTied}
 use Rattle.binary64.specs.Meaning.{RoundingMeans, FloorMeans, TruncateMeans, NearestMeans}
 use Rattle.binary64.specs.Whole.{DroppingLowBits}
@@ -44,6 +45,8 @@ pub record Claims : Type 0 where
   -- that an AND which wipes before it copies z to d gives shares of 0, and that NOT and CONST in every share join wrongly at even n
   pub wiped-first-zero : WipedFirstZero
   pub every-share-wrong : EveryShareWrong
+  -- that a plan which reads no other registers goes by its operands and the tape alone, whatever the other cells hold at the start
+  pub known-decide : KnownDecide
   -- numbers: what rounding and the whole numbers mean, the one fact about dropping low bits, where the results are IEEE 754's, the corners, the tables of edges
   pub rounding-means : RoundingMeans
   pub floor-means : FloorMeans
