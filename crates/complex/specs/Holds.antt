@@ -30,7 +30,7 @@ ActsJoin =
     → tapeFor n acts ≤ length tape → joinedSlots (runShares n acts tape s) ≡ runPlain acts (joinedSlots s)
 
 -- "The shares are those of our calls on shares, one after another on the tape": a call in a list of acts gives what the call by itself gives over
--- its part of the tape, whatever its result and work slices held.
+-- its part of the tape, whatever its result and work slices held. Calls with one operand have zeros for the second; the lists below have none.
 pub record AsCalled (n : ℕ) (before : List Act) (o : Operation) (k a b : ℕ) (s : Slots (List ℕ)) (tape result work : List ℕ) : Type 0 where
   pub answer : callAnswer (planOf o) (runShares n before tape s .held a) (runShares n before tape s .held b) result work (partOf n before o a b s tape)
       ≡ done 0 (foretoldTape n (planOf o))

@@ -1,7 +1,8 @@
 -- Secrecy of lists of acts on shares: for any step of an operation there is a share number such that, wherever in a list of acts a call of that
 -- operation stands, for any two inputs that agree in that share of every number, tapes for the whole list pair off, and paired calculations write
 -- equal words at that step of that call. Each call is a share run that demand 3 is about, from its operands placed, over its part of the tape; the
--- calls before it run over the tape's words before that part.
+-- calls before it run over the tape's words before that part. The code places a call's operands over what the call before left: the words of its
+-- steps are the same (`AnyStart`, operations/specs/Masked).
 use mathlib.Core.Path.{_≡_}
 use mathlib.Core.List.{List, [], _∷_, _++_}
 use Prim.Native.Nat.{ℕ, suc, _^_, _≤_, _<_}

@@ -13,11 +13,11 @@ use Rattle.word.proofs.Ranges.{both}
 use Rattle.masking.specs.Translation.{program}
 use Rattle.masking.specs.Machine.{exec, stepsOf}
 use Rattle.masking.specs.Foretold.{Accepted, foretoldTape}
-use Rattle.masking.specs.Reads.{memberOf, readsOnly, knownAfter}
+use Rattle.masking.specs.Reads.{memberOf, readsOnly, knownAfter, stepWord}
 use Rattle.masking.proofs.emitted.Tests.{or-elim}
 use Rattle.masking.proofs.joined.Known.{known-decide}
 use Rattle.gadgets.specs.Effects.{Ran}
-use Rattle.execution.specs.Shares.{placedIn, placed, resultShares, sharesOf}
+use Rattle.execution.specs.Shares.{placedIn, placedOver, placed, resultShares, sharesOf}
 use Rattle.execution.proofs.Plans.{finished-is}
 use Rattle.execution.proofs.Filling.{shares-same, placed-size, placed-other, placed-share}
 
@@ -31,7 +31,7 @@ below (q ∷ known) h r m =
 -- both operands placed over any cells
 module _ (n : ℕ) (small : n ≤ 8) (x y : List ℕ) (sizeX : length x ≡ n) (sizeY : length y ≡ n) where
   abbrev over : List ℕ → List ℕ
-  over c = placedIn 1 0 y (placedIn 0 0 x c)
+  over c = placedOver x y c
 
   over-size : (c : List ℕ) → length (over c) ≡ length c
   over-size c = placed-size 1 0 y (placedIn 0 0 x c) ∙ placed-size 0 0 x c
@@ -58,8 +58,16 @@ module _ (n : ℕ) (small : n ≤ 8) (x y : List ℕ) (sizeX : length x ≡ n) (
   uncleared-result plan known tape c low reads writes size =
       let zeros : List ℕ = replicate 512 0 in
       shares-same n _ _
-      (λ i l. known-decide n small plan known tape (over c) (over zeros) reads (over-size c ∙ size) (over-size zeros)
+      (λ i l. known-decide .registers n small plan known tape (over c) (over zeros) reads (over-size c ∙ size) (over-size zeros)
       (λ j r k lr m. same c zeros size refl j r k (below known low r m)) i 2 l (omega arith) writes)
+
+  -- at every step the same word
+  pub uncleared-steps : (plan known tape c : List ℕ) → Accepted n plan → T (allIn (λ r. ltb r 2) known) → T (readsOnly plan known) → length c ≡ 512
+      → (s : ℕ) → s < length (program n plan) → stepWord n plan s tape (placedOver x y c) ≡ stepWord n plan s tape (placed x y)
+  unfolding placed
+  uncleared-steps plan known tape c A low reads size =
+      let zeros : List ℕ = replicate 512 0 in
+      known-decide .steps n plan known tape (over c) (over zeros) A reads (over-size c ∙ size) (over-size zeros) (λ j r k lr m. same c zeros size refl j r k (below known low r m))
 
   -- the same of a plan's words done on the cells, with the operands placed over whatever these held
   pub result-by : (plan tape : List ℕ) → Accepted n plan → foretoldTape n plan ≤ length tape → T (readsOnly plan (0 ∷ 1 ∷ [])) → T (memberOf (knownAfter plan (0 ∷ 1 ∷ [])) 2)

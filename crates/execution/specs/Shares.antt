@@ -30,9 +30,13 @@ abbrev pub placedIn : ℕ → ℕ → List ℕ → List ℕ → List ℕ
 placedIn r i [] cells = cells
 placedIn r i (x ∷ xs) cells = placedIn r (suc i) xs (set cells (cell i r) x)
 
--- "Work starts as zeros with operands placed": registers 0 and 1
+-- operands in registers 0 and 1, over cells
+abbrev pub placedOver : List ℕ → List ℕ → List ℕ → List ℕ
+placedOver x y cells = placedIn 1 0 y (placedIn 0 0 x cells)
+
+-- "Work starts as zeros with operands placed"
 unfoldable pub placed : List ℕ → List ℕ → List ℕ
-placed x y = placedIn 1 0 y (placedIn 0 0 x (replicate 512 0))
+placed x y = placedOver x y (replicate 512 0)
 
 -- a share run over the whole translated plan: its answer, and the cells afterwards
 abbrev pub wholeRun : List ℕ → ℕ → List ℕ → List ℕ → List ℕ → Answer

@@ -1,4 +1,4 @@
--- What the contracts of inner functions say: a plan word's share steps done straight on the cells.
+-- What the contracts of inner functions say, and words for their proofs: a plan word's share steps done straight on the cells.
 -- Nothing here has to be believed: the contracts of the public calls do not cite it.
 use mathlib.Core.Path.{_≡_}
 use mathlib.Core.List.{List, [], _∷_, _++_, map}

@@ -11,6 +11,7 @@ use Rattle.masking.proofs.WipedFirst as wiped-first
 use Rattle.masking.proofs.EveryShare as every-share
 use Rattle.masking.proofs.Examples as examples
 use Rattle.masking.proofs.joined.Known as known
+use Rattle.masking.proofs.secret.Kept as kept
 use Rattle.translation.proofs.Tied as tied
 use Rattle.binary64.proofs.Meaning as meaning
 use Rattle.binary64.proofs.FloorMeaning as floor-meaning
@@ -46,6 +47,7 @@ claims =
       unrefreshed-leaks = leaks.unrefreshed-leaks;
       wiped-first-zero = wiped-first.wiped-first-zero;
       every-share-wrong = every-share.every-share-wrong;
+      keeps-shares = kept.keeps-shares;
       known-decide = known.known-decide;
       rounding-means = meaning.rounding-means;
       floor-means = floor-meaning.floor-means;

@@ -25,6 +25,8 @@ use Rattle.plain.specs.Laws.{Laws}
 use Rattle.masking.specs.Machine.{Start}
 use Rattle.masking.specs.Foretold.{Accepted}
 use Rattle.masking.specs.Counts.{StepCounts, PlanCounts, Counts}
+use Rattle.masking.specs.Kept.{EndsAgree}
+use Rattle.masking.specs.Reads.{KnownDecide}
 use Rattle.masking.specs.Wiped.{holdsAndOrAdd, Wiped}
 use Rattle.masking.specs.Secrecy.{Tape, Pairing, Hidden, Secret}
 use Rattle.masking.proofs.emitted.Tests.{or-right}
@@ -151,6 +153,12 @@ built-in h = record { computes = h .computes; cost = h .cost; figures = h .figur
 by-rows : ByRows → ByRows
 by-rows h = record { parts = h .parts; rows = h .rows; words = h .words; tables = h .tables; fewer = h .fewer }
 
+known-decide : KnownDecide → KnownDecide
+known-decide h = record { registers = h .registers; steps = h .steps }
+
+ends-agree : {n : ℕ} {plan : List ℕ} {i : ℕ} {l l′ : List ℕ} → EndsAgree n plan i l l′ → EndsAgree n plan i l l′
+ends-agree h = record { pairing = h .pairing; agree = h .agree }
+
 operand : {n : ℕ} {x : List ℕ} → Operand n x → Operand n x
 operand h = record { size = h .size; words = h .words }
 
@@ -161,7 +169,7 @@ whole-run : {plan : List ℕ} {n : ℕ} {x y tape : List ℕ} → WholeRun plan 
 whole-run h = record { done = h .done; short = h .short }
 
 on-shares : {plan : List ℕ} {op : ℕ → ℕ → ℕ} → OnShares plan op → OnShares plan op
-on-shares h = record { run = h .run; joins = h .joins; call = h .call; secret = h .secret }
+on-shares h = record { run = h .run; joins = h .joins; call = h .call; secret = h .secret; start = h .start }
 
 split-joins : SplitJoins → SplitJoins
 split-joins h = record { shares = h .shares; calls = h .calls }

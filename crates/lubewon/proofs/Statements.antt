@@ -7,12 +7,12 @@ use native.Mathlib.Nat.{add-zero}
 use lib.Dec.{T}
 use Prim.Native.Nat.{ℕ, suc, _+_, _-_, _*_, _^_, _≤_, _<_}
 use lib.Ieee.{binary64, ofBits, toBits, mul, add}
-use lib.ListN.{length, getD}
+use lib.ListN.{length, getD, take}
 use Rattle.bits.specs.Ops.{addW}
 use Rattle.bits.specs.Adder.{adder}
 use Rattle.word.specs.declared.step.Step.{Step}
 use Rattle.word.specs.declared.step.Decoded.{Decoded}
-use Rattle.word.specs.Encoding.{planStep, inPlan, inProgram}
+use Rattle.word.specs.Encoding.{fieldD, planStep, inPlan, inProgram}
 use Rattle.word.specs.Layout.{cell, lengthOf, tapeOf, programMax}
 use Rattle.word.specs.Parts.{OfParts, OfNone}
 use Rattle.checks.specs.Answers.{FirstBad, firstBad}
@@ -26,7 +26,8 @@ use Rattle.masking.specs.Demand3.{InARow}
 use Rattle.masking.specs.Leaks.{Leak}
 use Rattle.masking.specs.WipedFirst.{wipedFirst}
 use Rattle.masking.specs.EveryShare.{JoinsWrongly}
-use Rattle.masking.specs.Reads.{knownAfter, memberOf, readsOnly}
+use Rattle.masking.specs.Kept.{EndsAgree}
+use Rattle.masking.specs.Reads.{knownAfter, memberOf, readsOnly, stepWord}
 use Rattle.translation.specs.Calls.{measured, translateAnswer}
 use Rattle.translation.specs.Tied.{Tied}
 use Rattle.binary64.specs.Number.{sign, expo, frac, magnitude}
@@ -48,7 +49,7 @@ use Rattle.plans.specs.FloorPlan.{floorPlan}
 use Rattle.plans.specs.TruncatePlan.{truncatePlan}
 use Rattle.plans.specs.NearestPlan.{nearestPlan}
 use Rattle.plans.specs.Computes.{Computes}
-use Rattle.execution.specs.Shares.{callAnswer, resultAfter, resultShares}
+use Rattle.execution.specs.Shares.{callAnswer, placed, placedOver, resultAfter, resultShares}
 use Rattle.operations.specs.Masked.{StepSecret, OnShares}
 use Rattle.execution.specs.WholeRun.{WholeRun}
 use Rattle.splitting.specs.SplitJoin.{xorAll, splitOf, splitAnswer, splitOut, joinedWord}
@@ -84,6 +85,10 @@ module _ {plan : List ℕ} {op : ℕ → ℕ → ℕ} (O : OnShares plan op) whe
 
   steps : (n : ℕ) → 2 ≤ n → n ≤ 8 → (s : ℕ) → s < length (program n plan) → StepSecret plan n s
   steps = O .secret
+
+  anywhere : (n : ℕ) → 2 ≤ n → n ≤ 8 → (x y cells tape : List ℕ) → length x ≡ n → length y ≡ n → ((k : ℕ) → getD x k 0 < 2 ^ 64) → ((k : ℕ) → getD y k 0 < 2 ^ 64)
+      → length cells ≡ 512 → (s : ℕ) → s < length (program n plan) → stepWord n plan s tape (placedOver x y cells) ≡ stepWord n plan s tape (placed x y)
+  anywhere n l m x y cells tape sx sy wx wy = O .start n l m x y cells tape (record { size = sx; words = wx }) (record { size = sy; words = wy })
 
 module _ (C : Claims) where
   apart-plans : (w : ℕ) → w < 2 ^ 32 → OfParts inPlan w ⊎ OfNone inPlan w
@@ -140,10 +145,20 @@ module _ (C : Claims) where
   every-share : JoinsWrongly 2 × JoinsWrongly 4 × JoinsWrongly 6 × JoinsWrongly 8
   every-share = C .every-share-wrong
 
-  known-decide : (n : ℕ) → n ≤ 8 → (plan known tape c c′ : List ℕ) → T (readsOnly plan known) → length c ≡ 512 → length c′ ≡ 512
+  kept : (n : ℕ) (plan : List ℕ) → Accepted n plan → (i : ℕ) → i < n → (l l′ : List ℕ) → Start l → Start l′
+      → ((r : ℕ) → r < 32 → getD l (32 * i + r) 0 ≡ getD l′ (32 * i + r) 0) → EndsAgree n plan i l l′
+  kept = C .keeps-shares
+
+  known-registers : (n : ℕ) → n ≤ 8 → (plan known tape c c′ : List ℕ) → T (readsOnly plan known) → length c ≡ 512 → length c′ ≡ 512
       → ((i r : ℕ) → i < n → r < 32 → T (memberOf known r) → getD c (cell i r) 0 ≡ getD c′ (cell i r) 0)
       → (i r : ℕ) → i < n → r < 32 → T (memberOf (knownAfter plan known) r) → getD (exec (program n plan) tape c) (cell i r) 0 ≡ getD (exec (program n plan) tape c′) (cell i r) 0
-  known-decide = C .known-decide
+  known-registers = C .known-decide .registers
+
+  known-steps : (n : ℕ) (plan known tape c c′ : List ℕ) → Accepted n plan → T (readsOnly plan known) → length c ≡ 512 → length c′ ≡ 512
+      → ((i r : ℕ) → i < n → r < 32 → T (memberOf known r) → getD c (cell i r) 0 ≡ getD c′ (cell i r) 0) → (s : ℕ) → s < length (program n plan)
+      → getD (exec (take (suc s) (program n plan)) tape c) (fieldD (getD (program n plan) s 0)) 0
+      ≡ getD (exec (take (suc s) (program n plan)) tape c′) (fieldD (getD (program n plan) s 0)) 0
+  known-steps = C .known-decide .steps
 
   rounded : (u M : ℕ) → 52 ≤ u → 2 ^ u ≤ M → Rounded u M (magBits u M)
   rounded = C .rounding-means

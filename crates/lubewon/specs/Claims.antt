@@ -12,6 +12,7 @@ use Rattle.masking.specs.Leaks.{UnrefreshedLeaks}
 use Rattle.masking.specs.WipedFirst.{WipedFirstZero}
 use Rattle.masking.specs.EveryShare.{EveryShareWrong}
 use Rattle.masking.specs.Examples.{TranslationExamples}
+use Rattle.masking.specs.Kept.{SharesKept}
 use Rattle.masking.specs.Reads.{KnownDecide}
 use Rattle.translation.specs.Tied.{TranslateTied}
 use Rattle.binary64.specs.Meaning.{RoundingMeans, FloorMeans, TruncateMeans, NearestMeans}
@@ -45,7 +46,10 @@ pub record Claims : Type 0 where
   -- that an AND which wipes before it copies z to d gives shares of 0, and that NOT and CONST in every share join wrongly at even n
   pub wiped-first-zero : WipedFirstZero
   pub every-share-wrong : EveryShareWrong
-  -- that a plan which reads no other registers goes by its operands and the tape alone, whatever the other cells hold at the start
+  -- that agreement in a share at the start is agreement in it at the end, over paired tapes
+  pub keeps-shares : SharesKept
+  -- of a plan that reads no registers but known ones and those written before: that the known ones and the tape decide the registers it writes and
+  -- the word of every step
   pub known-decide : KnownDecide
   -- numbers: what rounding and the whole numbers mean, the one fact about dropping low bits, where the results are IEEE 754's, the corners, the tables of edges
   pub rounding-means : RoundingMeans

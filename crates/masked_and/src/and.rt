@@ -6,7 +6,6 @@ ghost use lib.ListN.{length};
 ghost use Rattle.masking.specs.Translation.{andBlock, scratch};
 ghost use Rattle.gadgets.specs.Effects.{Enough, Ran, Register, at, placed};
 use crate::two::and_2;
-use crate::two::and_helpers_2;
 use conjunction::helpers::and_helpers_3_to_8;
 use conjunction::registers::and_3_to_8;
 use gadgets::once::Place;
@@ -48,7 +47,7 @@ pub fn and_of_registers(
     ensures { λ r. ⌜ Ran (andBlock scratch n (at d) (at (placed a 32)) (at (placed b 32))) (now (tape .entry)) t (now (cells .entry)) (now (cells .exit)) r ⌝ }
 {
     if n == 2 {
-        return and_2(d, a, b, tape, t, cells);
+        return and_2(d, a, b, 32, tape, t, cells);
     }
     and_more(d, a, b, 32, n, tape, t, cells)
 }
@@ -69,7 +68,7 @@ pub fn and_of_helpers(
     ensures { λ r. ⌜ Ran (andBlock scratch n (at d) (at (placed a 8)) (at (placed b 8))) (now (tape .entry)) t (now (cells .entry)) (now (cells .exit)) r ⌝ }
 {
     if n == 2 {
-        return and_helpers_2(d, a, b, tape, t, cells);
+        return and_2(d, a, b, 8, tape, t, cells);
     }
     and_more(d, a, b, 8, n, tape, t, cells)
 }

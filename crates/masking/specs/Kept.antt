@@ -3,7 +3,7 @@
 use mathlib.Core.List.{List}
 use Prim.Native.Nat.{ℕ, _<_}
 use Rattle.masking.specs.Translation.{program}
-use Rattle.masking.specs.Foretold.{foretoldTape}
+use Rattle.masking.specs.Foretold.{Accepted, foretoldTape}
 use Rattle.masking.specs.Machine.{exec, Start}
 use Rattle.masking.specs.Secrecy.{Agree, Tape, Pairing}
 
@@ -15,3 +15,7 @@ pub record EndsAgree (n : ℕ) (plan : List ℕ) (i : ℕ) (l l′ : List ℕ) :
 -- starts that agree in a share: so do the ends of paired runs, in that share
 abbrev pub KeepsAgreement : ℕ → List ℕ → Type 0
 KeepsAgreement n plan = (i : ℕ) → i < n → (l l′ : List ℕ) → Start l → Start l′ → Agree i l l′ → EndsAgree n plan i l l′
+
+-- of every plan
+abbrev pub SharesKept : Type 0
+SharesKept = (n : ℕ) (plan : List ℕ) → Accepted n plan → KeepsAgreement n plan

@@ -1,18 +1,19 @@
 -- What a plan reads and what its shares depend on, which document 01 leaves free ("Its words are the team's choice"): a test that no register is
--- read but those known at the start and those written before, and the statement that such a plan's results go by the known registers and the tape
--- alone, whatever all other cells hold at the start.
+-- read but those known at the start and those written before, and the statement that such a plan's results, and the words of its share program's
+-- steps, go by the known registers and the tape alone, whatever all other cells hold at the start.
 use mathlib.Core.Path.{_≡_}
 use mathlib.Core.Bool.{Bool, true, false, _&&_, _||_}
 use mathlib.Core.List.{List, [], _∷_}
-use Prim.Native.Nat.{ℕ, _≤_, _<_}
+use Prim.Native.Nat.{ℕ, suc, _≤_, _<_}
 use lib.Dec.{T, eqb}
-use lib.ListN.{length, getD}
+use lib.ListN.{length, getD, take}
 use Rattle.word.specs.declared.step.Decoded.{Decoded}
 use Rattle.word.specs.declared.step.Decoded.the-variants.{Good, Bad}
-use Rattle.word.specs.Encoding.{planStep}
+use Rattle.word.specs.Encoding.{fieldD, planStep}
 use Rattle.word.specs.Layout.{cell}
 use Rattle.word.specs.Table.{dest, reads, allIn}
 use Rattle.masking.specs.Translation.{program}
+use Rattle.masking.specs.Foretold.{Accepted}
 use Rattle.masking.specs.Machine.{exec}
 
 abbrev pub memberOf : List ℕ → ℕ → Bool
@@ -43,9 +44,14 @@ knownAfter (w ∷ ws) known = knownAfter ws (written (planStep w) known)
 abbrev pub AgreeIn : ℕ → List ℕ → List ℕ → List ℕ → Type 0
 AgreeIn n ks c c′ = (i r : ℕ) → i < n → r < 32 → T (memberOf ks r) → getD c (cell i r) 0 ≡ getD c′ (cell i r) 0
 
--- over one tape, a plan that reads only known registers and those written before leaves the same shares in all of them, whatever the other cells
--- hold at the start
-abbrev pub KnownDecide : Type 0
-KnownDecide =
-    (n : ℕ) → n ≤ 8 → (plan known tape c c′ : List ℕ) → T (readsOnly plan known) → length c ≡ 512 → length c′ ≡ 512 → AgreeIn n known c c′
-    → AgreeIn n (knownAfter plan known) (exec (program n plan) tape c) (exec (program n plan) tape c′)
+-- what the cell of step s holds after it, in a run of the plan's share program from these cells
+abbrev pub stepWord : ℕ → List ℕ → ℕ → List ℕ → List ℕ → ℕ
+stepWord n plan s tape cells = getD (exec (take (suc s) (program n plan)) tape cells) (fieldD (getD (program n plan) s 0)) 0
+
+-- over one tape, and whatever the cells of other registers and those from 256 on hold at the start: a plan that reads only known registers and
+-- those written before leaves the same shares in all of them, and each step of its share program writes the same word
+pub record KnownDecide : Type 0 where
+  pub registers : (n : ℕ) → n ≤ 8 → (plan known tape c c′ : List ℕ) → T (readsOnly plan known) → length c ≡ 512 → length c′ ≡ 512 → AgreeIn n known c c′
+      → AgreeIn n (knownAfter plan known) (exec (program n plan) tape c) (exec (program n plan) tape c′)
+  pub steps : (n : ℕ) (plan known tape c c′ : List ℕ) → Accepted n plan → T (readsOnly plan known) → length c ≡ 512 → length c′ ≡ 512 → AgreeIn n known c c′
+      → (s : ℕ) → s < length (program n plan) → stepWord n plan s tape c ≡ stepWord n plan s tape c′

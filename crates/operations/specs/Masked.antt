@@ -1,5 +1,5 @@
 -- What is proved of the operations on shares: their results join to the operation on the joined operands, and each step of the share program
--- that defines them has demand 3's secrecy in terms of the operands' shares.
+-- that defines them has demand 3's secrecy in terms of the operands' shares, whatever the work slice held.
 use mathlib.Core.Path.{_≡_}
 use mathlib.Core.List.{List}
 use Prim.Native.Nat.{ℕ, _≤_, _<_}
@@ -7,11 +7,12 @@ use lib.ListN.{length, getD}
 use Rattle.masking.specs.Translation.{program}
 use Rattle.masking.specs.Foretold.{foretoldTape}
 use Rattle.masking.specs.Machine.{Words}
+use Rattle.masking.specs.Reads.{stepWord}
 use Rattle.masking.specs.Secrecy.{Hidden}
 use Rattle.binary64.specs.Operations.{Operation, onWords}
 use Rattle.plans.specs.BuiltIns.{planOf}
 use Rattle.splitting.specs.SplitJoin.{xorAll}
-use Rattle.execution.specs.Shares.{placed, resultShares, callAnswer, resultAfter}
+use Rattle.execution.specs.Shares.{placed, placedOver, resultShares, callAnswer, resultAfter}
 use Rattle.execution.specs.WholeRun.{RunsWhole}
 
 -- n shares
@@ -36,6 +37,13 @@ pub record StepSecret (plan : List ℕ) (n s : ℕ) : Type 0 where
 abbrev pub Secretive : List ℕ → Type 0
 Secretive plan = (n : ℕ) → 2 ≤ n → n ≤ 8 → (s : ℕ) → s < length (program n plan) → StepSecret plan n s
 
+-- The calls place the operands over what the work slice holds: from any cells each step writes the word that it writes from zeros, and so its
+-- secrecy is that of the start above.
+abbrev pub AnyStart : List ℕ → Type 0
+AnyStart plan =
+    (n : ℕ) → 2 ≤ n → n ≤ 8 → (x y cells tape : List ℕ) → Operand n x → Operand n y → length cells ≡ 512 → (s : ℕ) → s < length (program n plan)
+    → stepWord n plan s tape (placedOver x y cells) ≡ stepWord n plan s tape (placed x y)
+
 -- and of the calls themselves: where one is done, the result's words join to the operation on the joined operands
 abbrev pub CallJoins : List ℕ → (ℕ → ℕ → ℕ) → Type 0
 CallJoins plan op =
@@ -49,6 +57,7 @@ pub record OnShares (plan : List ℕ) (op : ℕ → ℕ → ℕ) : Type 0 where
   pub joins : Joins plan op
   pub call : CallJoins plan op
   pub secret : Secretive plan
+  pub start : AnyStart plan
 
 -- of every built-in operation
 abbrev pub Masked : Type 0

@@ -1,5 +1,6 @@
 -- What a linear plan word (CONST, XOR, NOT, SHL, SHR, SPREAD) does on one share, and lists of them, share by share.
--- Registers and shift numbers are kept in range here, so that every word does something; of a plan's words that changes none.
+-- Registers and shift numbers are kept in range here and all kinds but the first five are SPREAD, so that every word does something; that changes none
+-- of a plan's linear words, and for AND and ADD it is not used.
 -- Nothing here has to be believed: the contracts of the public calls do not cite it.
 use mathlib.Core.Bool.{cond}
 use mathlib.Core.List.{List, [], _∷_}

@@ -1,13 +1,14 @@
 -- Two runs over one tape, from different cells: where each step reads only cells in which the runs agree, they agree in the cells that it writes
--- too (`run-same`). Of steps on cells and of steps on registers alike. Rests on word's Becomes.
-use mathlib.Core.Path.{_≡_, sym, ap, _∙_}
+-- too (`run-same`), and write the same words (`words-same`). Of steps on cells and of steps on registers alike. Rests on word's Becomes.
+use mathlib.Core.Path.{_≡_, refl, sym, ap, _∙_}
 use mathlib.Core.List.{List, [], _∷_, _++_, map}
 use mathlib.Core.Logic.{_⊎_, inl, inr, ⊎-elim}
 use Prim.Native.Nat.{ℕ, zero, suc, _+_, _≤_, _<_}
 use native.Mathlib.Omega.{arith}
 use native.Mathlib.Decide.{ℕ-discrete}
-use lib.ListN.{getD, drop}
+use lib.ListN.{length, getD, take, drop}
 use Rattle.word.specs.declared.step.Step.{Step}
+use Rattle.word.specs.declared.step.Step.the-variants.{Rand}
 use Rattle.word.specs.Table.{dest, reads, Each, becomes}
 use Rattle.word.proofs.Ranges.{each-of}
 use Rattle.word.proofs.Becomes.{becomes-reads}
@@ -52,6 +53,15 @@ run-same P Q [] h tape c c′ g = λ k q. g k (h k q)
 run-same P Q (s ∷ ss) h tape c c′ g =
     let t = getD tape 0 0 in
     run-same (plus (dest s) P) Q ss (h .1) (drop (takes s) tape) (stepOn s t c) (stepOn s t c′) (step-same P s (h .0) t c c′ g)
+
+-- at every step they write the same word
+pub words-same : (P Q : Some) (ss : List Step) → Decides P ss Q → (tape : List ℕ) (c c′ : Cells) → Same P c c′ → (j : ℕ) → j < length ss
+    → stepsOn (take (suc j) ss) tape c (dest (getD ss j (Rand 0))) ≡ stepsOn (take (suc j) ss) tape c′ (dest (getD ss j (Rand 0)))
+words-same P Q [] h tape c c′ g j l = absurd (omega arith)
+words-same P Q (s ∷ ss) h tape c c′ g zero l = step-same P s (h .0) (getD tape 0 0) c c′ g (dest s) (inl refl)
+words-same P Q (s ∷ ss) h tape c c′ g (suc j) l =
+    let t = getD tape 0 0 in
+    words-same (plus (dest s) P) Q ss (h .1) (drop (takes s) tape) (stepOn s t c) (stepOn s t c′) (step-same P s (h .0) t c c′ g) j (omega arith)
 
 -- ---- lists of steps
 

@@ -1,30 +1,34 @@
--- Known registers decide a plan's results (`known-decide`): its words' steps on registers read known registers alone, and so do their share steps
--- by DecidedBlocks. Rests also on emitted's Steps (words as steps).
+-- Known registers decide a plan's results and the words of its steps (`known-decide`): its words' steps on registers read known registers alone, and
+-- so do their share steps by DecidedBlocks. Rests also on emitted's Steps and secret's Secret (words as steps).
 use mathlib.Core.Path.{_≡_, refl, sym, ap, _∙_}
 use mathlib.Core.Bool.{not}
 use mathlib.Core.List.{List, [], _∷_}
 use mathlib.Core.Logic.{inl, inr}
-use Prim.Native.Nat.{ℕ, _<_}
+use Prim.Native.Nat.{ℕ, suc, _≤_, _<_}
+use native.Mathlib.Omega.{arith}
 use lib.Dec.{T, eqb, eqb→eq}
-use lib.ListN.{length}
+use lib.ListN.{length, getD, take}
 use Rattle.word.specs.declared.step.Step.{Step}
+use Rattle.word.specs.declared.step.Step.the-variants.{Rand}
 use Rattle.word.specs.declared.step.Decoded.{Decoded}
 use Rattle.word.specs.declared.step.Decoded.the-variants.{Good, Bad}
-use Rattle.word.specs.Encoding.{kindNumber, within, inPlan, planStep}
+use Rattle.word.specs.Encoding.{kindNumber, within, inPlan, inProgram, planStep}
 use Rattle.word.specs.Layout.{cell}
 use Rattle.word.specs.Table.{dest, reads, Each, allIn}
 use Rattle.word.proofs.Ranges.{both, tested-each, within-cells}
 use Rattle.word.proofs.Together.{taken-rule}
 use Rattle.masking.specs.Translation.{scratch, blocks, laidOut, program}
+use Rattle.masking.specs.Foretold.{Accepted}
 use Rattle.masking.specs.Machine.{exec, execSteps}
-use Rattle.masking.specs.Reads.{memberOf, reading, readsOnly, knownAfter, KnownDecide}
-use Rattle.masking.proofs.emitted.Tests.{or-elim}
+use Rattle.masking.specs.Reads.{memberOf, reading, readsOnly, knownAfter, AgreeIn, stepWord, KnownDecide}
+use Rattle.masking.proofs.emitted.Tests.{or-elim, all-take}
 use Rattle.masking.proofs.emitted.Places.{share-register}
 use Rattle.masking.proofs.emitted.Steps.{PlanWords, taken-kind, planSteps, blocks-append, words-good, words-steps}
 use Rattle.masking.proofs.joined.Cells.{Cells, at, stepsOn, exec-on}
 use Rattle.masking.proofs.joined.Plan.{laid-kinds}
-use Rattle.masking.proofs.joined.Decided.{Some, plus, Decides, Same, run-same, decides-to, decides-then}
+use Rattle.masking.proofs.joined.Decided.{Some, plus, Decides, Same, run-same, words-same, decides-to, decides-then}
 use Rattle.masking.proofs.joined.DecidedBlocks.{SharesOf, blocks-decide, laid-decides}
+use Rattle.masking.proofs.secret.Secret.{steps-length, program-word}
 
 -- it has no bad word
 reads-words : (plan known : List ℕ) → T (readsOnly plan known) → PlanWords plan
@@ -71,22 +75,39 @@ module _ (n : ℕ) where
       (decides-then (SharesOf n (Known known)) (SharesOf n (Known (dest s ∷ known))) (SharesOf n (Known (knownAfter ws (dest s ∷ known))))
       (blocks scratch n (laidOut s)) (blocks scratch n (planSteps ws)) (step-decides known s (p .0 .inRange) (t .0)) (plan-decides ws (p .1) (dest s ∷ known) (t .1)))
 
--- the law
+-- ---- the law
+module _ (n : ℕ) (plan known tape c c′ : List ℕ) (h : T (readsOnly plan known)) (size : length c ≡ 512) (size′ : length c′ ≡ 512) (agree : AgreeIn n known c c′) where
+  abbrev ss : List Step
+  ss = blocks scratch n (planSteps plan)
+
+  words : PlanWords plan
+  words = reads-words plan known h
+
+  start : Same (SharesOf n (Known known)) (at c) (at c′)
+  start k (j, l, x, q, e) = rw (e, share-register j x (q .0)) (agree j x l (q .0) (q .1))
+
+  after : n ≤ 8 → AgreeIn n (knownAfter plan known) (exec (program n plan) tape c) (exec (program n plan) tape c′)
+  after most i r li lr m =
+      run c size ∙ run-same _ _ ss (plan-decides n plan words known h) tape (at c) (at c′) start (cell i r) (i, li, r, (lr, m), sym (share-register i r lr))
+      ∙ sym (run c′ size′)
+    where
+      run : (l : List ℕ) → length l ≡ 512 → at (exec (program n plan) tape l) (cell i r) ≡ stepsOn ss tape (at l) (cell i r)
+      run l e =
+          ap (λ (x : List Step). at (execSteps x tape l) (cell i r)) (words-steps n most plan words)
+          ∙ ap (λ (f : Cells). f (cell i r)) (exec-on ss (words-good n most plan words) l tape e)
+
+  on-the-way : Accepted n plan → (s : ℕ) → s < length (program n plan) → stepWord n plan s tape c ≡ stepWord n plan s tape c′
+  on-the-way A s l =
+      run c size ∙ words-same _ _ ss (plan-decides n plan words known h) tape (at c) (at c′) start s (omega (arith, steps-length n plan A)) ∙ sym (run c′ size′)
+    where
+      run : (k : List ℕ) → length k ≡ 512 → stepWord n plan s tape k ≡ stepsOn (take (suc s) ss) tape (at k) (dest (getD ss s (Rand 0)))
+      run k e =
+          program-word n plan A s l tape k
+          ∙ ap (λ (f : Cells). f (dest (getD ss s (Rand 0)))) (exec-on (take (suc s) ss) (all-take (λ s. T (inProgram s)) (suc s) ss (words-good n (A .most) plan words)) k tape e)
+
 pub known-decide : KnownDecide
-known-decide n most plan known tape c c′ h size size′ agree i r li lr m =
-    run c size ∙ run-same _ _ ss (plan-decides n plan words known h) tape (at c) (at c′) start (cell i r) (i, li, r, (lr, m), sym (share-register i r lr))
-    ∙ sym (run c′ size′)
-  where
-    ss : List Step
-    ss = blocks scratch n (planSteps plan)
-
-    words : PlanWords plan
-    words = reads-words plan known h
-
-    run : (l : List ℕ) → length l ≡ 512 → at (exec (program n plan) tape l) (cell i r) ≡ stepsOn ss tape (at l) (cell i r)
-    run l e =
-        ap (λ (x : List Step). at (execSteps x tape l) (cell i r)) (words-steps n most plan words)
-        ∙ ap (λ (f : Cells). f (cell i r)) (exec-on ss (words-good n most plan words) l tape e)
-
-    start : Same (SharesOf n (Known known)) (at c) (at c′)
-    start k (j, l, x, q, e) = rw (e, share-register j x (q .0)) (agree j x l (q .0) (q .1))
+known-decide =
+    record {
+      registers = λ n most plan known tape c c′ h size size′ agree. after n plan known tape c c′ h size size′ agree most;
+      steps = λ n plan known tape c c′ A h size size′ agree. on-the-way n plan known tape c c′ h size size′ agree A;
+    }

@@ -15,7 +15,7 @@ use Rattle.masking.specs.Translation.{Scratch, scratch, shareCell, block
 use Rattle.masking.specs.Foretold.{Accepted, foretoldTape}
 use Rattle.masking.specs.Machine.{execSteps, exec, Start}
 use Rattle.masking.specs.Secrecy.{Agree, Tape, Pairing}
-use Rattle.masking.specs.Kept.{KeepsAgreement}
+use Rattle.masking.specs.Kept.{SharesKept}
 use Rattle.masking.proofs.emitted.Tests.{All}
 use Rattle.masking.proofs.emitted.Places.{Places, places, share-register}
 use Rattle.masking.proofs.emitted.Steps.{plan-words, planSteps, plan-good, program-steps}
@@ -86,7 +86,7 @@ module _ (n : ℕ) (plan : List ℕ) (A : Accepted n plan) (i : ℕ) where
             program-cell r lr tape l ∙ h .end tape t i r li (omega arith) (lt→ltb r 32 lr) (has-head [] i) ∙ sym (program-cell r lr (h .pairing .there tape) l′),
       )
 
-pub keeps-shares : (n : ℕ) (plan : List ℕ) → Accepted n plan → KeepsAgreement n plan
+pub keeps-shares : SharesKept
 keeps-shares n plan A i li l l′ st st′ g =
     let q = ends-agreeing n plan A i li l l′ st st′ g in
     record { pairing = q .0; agree = q .1 }

@@ -14,7 +14,8 @@ use Rattle.word.specs.Encoding.{fieldD, put, wordOf, planStep, inProgram}
 use Rattle.word.specs.Table.{dest}
 use Rattle.masking.specs.Translation.{scratch, blocks, program}
 use Rattle.masking.specs.Foretold.{Accepted, foretoldTape}
-use Rattle.masking.specs.Machine.{execSteps, exec, randsOf, Start}
+use Rattle.masking.specs.Machine.{execSteps, randsOf, Start}
+use Rattle.masking.specs.Reads.{stepWord}
 use Rattle.masking.specs.Secrecy.{Agree, Tape, Pairing}
 use Rattle.masking.proofs.emitted.Tests.{All}
 use Rattle.masking.proofs.emitted.Places.{places, share-register}
@@ -25,20 +26,16 @@ use Rattle.masking.proofs.secret.Sets.{has, has-head, has-cases}
 use Rattle.masking.proofs.secret.Reading.{reading, reading-append, laid-reading}
 use Rattle.masking.proofs.secret.Hidden.{wordAt, Hides, blocks-hidden}
 
--- what the cell of program word s holds after it
-abbrev pub programWord : ℕ → List ℕ → ℕ → List ℕ → List ℕ → ℕ
-programWord n plan s tape l = getD (exec (take (suc s) (program n plan)) tape l) (fieldD (getD (program n plan) s 0)) 0
-
 -- paired runs write equal words at the steps js
 pub record StepsHidden (n : ℕ) (plan js l l′ : List ℕ) : Type 0 where
   pub pairing : Pairing (foretoldTape n plan)
   pub equal : (tape : List ℕ) → Tape (foretoldTape n plan) tape → (s : ℕ) → s < length (program n plan) → T (has js s)
-      → programWord n plan s tape l ≡ programWord n plan s (pairing .there tape) l′
+      → stepWord n plan s tape l ≡ stepWord n plan s (pairing .there tape) l′
 
 -- at step s
 pub record StepHidden (n : ℕ) (plan : List ℕ) (s : ℕ) (l l′ : List ℕ) : Type 0 where
   pub pairing : Pairing (foretoldTape n plan)
-  pub equal : (tape : List ℕ) → Tape (foretoldTape n plan) tape → programWord n plan s tape l ≡ programWord n plan s (pairing .there tape) l′
+  pub equal : (tape : List ℕ) → Tape (foretoldTape n plan) tape → stepWord n plan s tape l ≡ stepWord n plan s (pairing .there tape) l′
 
 -- two starts agree in the shares S
 abbrev pub AgreeOn : List ℕ → List ℕ → List ℕ → Type 0
@@ -79,10 +76,10 @@ module _ (n : ℕ) (plan : List ℕ) (A : Accepted n plan) where
   abbrev steps : List Step
   steps = blocks scratch n (planSteps plan)
 
-  steps-length : length (program n plan) ≡ length steps
+  pub steps-length : length (program n plan) ≡ length steps
   steps-length = ap length (program-words n plan) ∙ length-map steps wordOf
 
-  program-word : (s : ℕ) → s < length (program n plan) → (tape l : List ℕ) → programWord n plan s tape l ≡ wordAt steps s tape l
+  pub program-word : (s : ℕ) → s < length (program n plan) → (tape l : List ℕ) → stepWord n plan s tape l ≡ wordAt steps s tape l
   program-word s h tape l =
       ap₂ (λ (ss : List Step) (d : ℕ). getD (execSteps ss tape l) d 0) (take-steps n plan A (suc s))
       (ap (λ (ws : List ℕ). fieldD (getD ws s 0)) (program-words n plan) ∙ field-at steps (plan-good n plan A) s (omega (arith, steps-length)))
@@ -93,7 +90,7 @@ module _ (n : ℕ) (plan : List ℕ) (A : Accepted n plan) where
   -- a pairing of tapes of length L with equal words at the steps js
   abbrev Equal : List ℕ → List ℕ → List ℕ → ℕ → Type 0
   Equal js l l′ L =
-      (p : Pairing L) × ((tape : List ℕ) → Tape L tape → (s : ℕ) → s < length (program n plan) → T (has js s) → programWord n plan s tape l ≡ programWord n plan s (p .there tape) l′)
+      (p : Pairing L) × ((tape : List ℕ) → Tape L tape → (s : ℕ) → s < length (program n plan) → T (has js s) → stepWord n plan s tape l ≡ stepWord n plan s (p .there tape) l′)
 
   hidden : (js l l′ : List ℕ) → Hides steps js l l′ → StepsHidden n plan js l l′
   hidden js l l′ h =

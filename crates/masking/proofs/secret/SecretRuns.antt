@@ -12,7 +12,8 @@ use Rattle.masking.specs.Foretold.{Accepted}
 use Rattle.masking.specs.Machine.{exec, Start}
 use Rattle.masking.specs.Runs.{inARow, wordsDone}
 use Rattle.masking.specs.Secrecy.{Secret, Hidden, wordAfter, doneAfter}
-use Rattle.masking.proofs.secret.Secret.{programWord, StepHidden, step-secret}
+use Rattle.masking.specs.Reads.{stepWord}
+use Rattle.masking.proofs.secret.Secret.{StepHidden, step-secret}
 
 -- the cells after a list of runs are what the words done make of the start
 abbrev pub After : ℕ → List ℕ → Type 0
@@ -22,8 +23,8 @@ After n plan =
     ≡ exec (take (wordsDone (program n plan) tape (record { cells = start; place = 0; tapePlace = place }) budgets) (program n plan)) (drop place tape) start
 
 module _ (n : ℕ) (plan : List ℕ) (A : Accepted n plan) (after : After n plan) where
-  word-after : (s : ℕ) (l before tape budgets : List ℕ) → Start l → doneAfter n plan l before tape budgets ≡ suc s
-      → wordAfter n plan s l before tape budgets ≡ programWord n plan s tape l
+  pub word-after : (s : ℕ) (l before tape budgets : List ℕ) → Start l → doneAfter n plan l before tape budgets ≡ suc s
+      → wordAfter n plan s l before tape budgets ≡ stepWord n plan s tape l
   word-after s l before tape budgets st e =
       ap (λ (r : List ℕ). getD r (fieldD (getD (program n plan) s 0)) 0)
       (after l (before ++ tape) st (length before) (omega (arith, length-append before tape)) budgets

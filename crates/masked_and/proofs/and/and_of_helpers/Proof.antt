@@ -9,8 +9,8 @@ use Rattle.conjunction.proofs.Families.{helper-register, enough-for, ran-for}
 use Rattle.masked_and.proofs.and.and_of_helpers.Statement.{statement}
 use Rattle.masked_and.proofs.and.and_of_helpers.Tie as tie
 
-and-helpers-2-requires : tie.Need-and-helpers-2-requires
-and-helpers-2-requires c κs =
+and-2-requires : tie.Need-and-2-requires
+and-2-requires c κs =
     let s = c .before .before .before .before in
     let g = s .args in
     ((s .pre .0 .2, s .pre .0 .3, helper-register (g .a) (s .pre .0 .4) (s .pre .0 .5), helper-register (g .b) (s .pre .0 .6) (s .pre .0 .7)), enough-for (c .before .if1 .taken) (at (g .d)) (at (placed (g .a) 8)) (at (placed (g .b) 8)) (now (g .tape)) (g .t) (s .pre .1))
@@ -19,7 +19,7 @@ returns : tie.Need-returns
 returns c =
     let s = c .before .before .before .before .before .before .before in
     let g = s .args in
-    ran-for (c .before .before .before .before .if1 .taken) (at (g .d)) (at (placed (g .a) 8)) (at (placed (g .b) 8)) (now (g .tape)) (g .t) (c .before .before .and-helpers-2 .ensures)
+    ran-for (c .before .before .before .before .if1 .taken) (at (g .d)) (at (placed (g .a) 8)) (at (placed (g .b) 8)) (now (g .tape)) (g .t) (c .before .before .and-2 .ensures)
 
 and-more-requires : tie.Need-and-more-requires
 and-more-requires c κs =
@@ -34,7 +34,7 @@ pub and-of-helpers-spec : {M : Type 1} → statement M
 and-of-helpers-spec =
     tie.close
     (tie.spec
-    and-helpers-2-requires
+    and-2-requires
     (λ c. search needs)
     returns
     and-more-requires

@@ -14,13 +14,13 @@ use Rattle.masked_and.proofs.two.and_2.Statement.{statement}
 use Rattle.masked_and.proofs.two.and_2.Tie as tie
 
 shared-slice-read-y0 : tie.Need-shared-slice-read-y0
-shared-slice-read-y0 c = omega (arith, two-words (at (c .before .before .before .before .args .d)) (at (placed (c .before .before .before .before .args .a) 32)) (at (placed (c .before .before .before .before .args .b) 32)) (now (c .before .before .before .before .args .tape)) (c .before .before .before .before .args .t) (c .before .before .before .before .pre .1))
+shared-slice-read-y0 c = omega (arith, two-words (at (c .before .before .before .before .args .d)) (at (placed (c .before .before .before .before .args .a) (c .before .before .before .before .args .over))) (at (placed (c .before .before .before .before .args .b) (c .before .before .before .before .args .over))) (now (c .before .before .before .before .args .tape)) (c .before .before .before .before .args .t) (c .before .before .before .before .pre .1))
 
 shared-slice-read-y1 : tie.Need-shared-slice-read-y1
-shared-slice-read-y1 c = omega (arith, two-words (at (c .before .before .before .before .before .before .args .d)) (at (placed (c .before .before .before .before .before .before .args .a) 32)) (at (placed (c .before .before .before .before .before .before .args .b) 32)) (now (c .before .before .before .before .before .before .args .tape)) (c .before .before .before .before .before .before .args .t) (c .before .before .before .before .before .before .pre .1))
+shared-slice-read-y1 c = omega (arith, two-words (at (c .before .before .before .before .before .before .args .d)) (at (placed (c .before .before .before .before .before .before .args .a) (c .before .before .before .before .before .before .args .over))) (at (placed (c .before .before .before .before .before .before .args .b) (c .before .before .before .before .before .before .args .over))) (now (c .before .before .before .before .before .before .args .tape)) (c .before .before .before .before .before .before .args .t) (c .before .before .before .before .before .before .pre .1))
 
 shared-slice-read-s : tie.Need-shared-slice-read-s
-shared-slice-read-s c = omega (arith, two-words (at (c .before .before .before .before .before .before .before .before .args .d)) (at (placed (c .before .before .before .before .before .before .before .before .args .a) 32)) (at (placed (c .before .before .before .before .before .before .before .before .args .b) 32)) (now (c .before .before .before .before .before .before .before .before .args .tape)) (c .before .before .before .before .before .before .before .before .args .t) (c .before .before .before .before .before .before .before .before .pre .1))
+shared-slice-read-s c = omega (arith, two-words (at (c .before .before .before .before .before .before .before .before .args .d)) (at (placed (c .before .before .before .before .before .before .before .before .args .a) (c .before .before .before .before .before .before .before .before .args .over))) (at (placed (c .before .before .before .before .before .before .before .before .args .b) (c .before .before .before .before .before .before .before .before .args .over))) (now (c .before .before .before .before .before .before .before .before .args .tape)) (c .before .before .before .before .before .before .before .before .args .t) (c .before .before .before .before .before .before .before .before .pre .1))
 
 slice-read-a1 : tie.Need-slice-read-a1
 slice-read-a1 c = simp length-set (omega (arith, c .before .before .before .before .before .before .before .before .before .pre .0 .2 .inside))
@@ -29,7 +29,7 @@ slice-write-cells-2 : tie.Need-slice-write-cells-2
 slice-write-cells-2 c = simp length-set (omega arith)
 
 shared-slice-read-cells : tie.Need-shared-slice-read-cells
-shared-slice-read-cells c = omega (arith, two-words (at (c .before .before .before .before .before .before .before .before .before .before .before .args .d)) (at (placed (c .before .before .before .before .before .before .before .before .before .before .before .args .a) 32)) (at (placed (c .before .before .before .before .before .before .before .before .before .before .before .args .b) 32)) (now (c .before .before .before .before .before .before .before .before .before .before .before .args .tape)) (c .before .before .before .before .before .before .before .before .before .before .before .args .t) (c .before .before .before .before .before .before .before .before .before .before .before .pre .1))
+shared-slice-read-cells c = omega (arith, two-words (at (c .before .before .before .before .before .before .before .before .before .before .before .args .d)) (at (placed (c .before .before .before .before .before .before .before .before .before .before .before .args .a) (c .before .before .before .before .before .before .before .before .before .before .before .args .over))) (at (placed (c .before .before .before .before .before .before .before .before .before .before .before .args .b) (c .before .before .before .before .before .before .before .before .before .before .before .args .over))) (now (c .before .before .before .before .before .before .before .before .before .before .before .args .tape)) (c .before .before .before .before .before .before .before .before .before .before .before .args .t) (c .before .before .before .before .before .before .before .before .before .before .before .pre .1))
 
 slice-write-cells-3 : tie.Need-slice-write-cells-3
 slice-write-cells-3 c = simp length-set (omega (arith, c .before .before .before .before .before .before .before .before .before .before .before .pre .0 .1 .inside))
@@ -45,13 +45,16 @@ unfolding xorW andW
 returns c =
     let s = c .before .before .before .before .before .before .before .before .before .before .before .before .before .before .before in
     let g = s .args in
-    let A = placed (g .a) 32 in
-    let B = placed (g .b) 32 in
+    let A = placed (g .a) (g .over) in
+    let B = placed (g .b) (g .over) in
+    let one = native.Mathlib.Nat.one-mul (g .over) in
+    let second-a : g .a + g .over ≡ at A 1 = omega (arith, one) in
+    let second-b : g .b + g .over ≡ at B 1 = omega (arith, one) in
     let first : g .d .base ≡ at (g .d) 0 = at-first (g .d) in
     let next : g .d .base + g .d .stride ≡ at (g .d) 1 = omega (arith, native.Mathlib.Nat.one-mul (g .d .stride)) in
     two-done A B (g .d) (s .pre .0 .2) (s .pre .0 .3) (s .pre .0 .1) (now (g .tape)) (now (g .cells)) (g .t) (s .pre .0 .0)
     (λ k. omega (arith, c .before .before .before .before .before .before .before .before .before .before .before .before .before .slice-known .given k)) (λ k. omega (arith, c .before .before .before .before .before .before .before .before .before .before .before .before .before .before .shared-slice-known .given k))
-    _ _ _ _ _ _ (omega arith) (omega arith) (omega arith) (omega arith) first next _ (c .before .before .wipe .ensures)
+    _ _ _ _ _ _ (at-first B) second-b (at-first A) second-a first next _ (c .before .before .wipe .ensures)
 
 same-length : tie.Need-same-length
 same-length c = ran-size (returns c)
