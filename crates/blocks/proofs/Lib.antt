@@ -1,6 +1,7 @@
 -- The blocks of a translation by the places of their registers (Named), and plan words by kind (Words), AND and ADD over registers
--- that are their fields (ByField), and ADD's rounds by their shifts (Rounds).
+-- that are their fields (ByField), ADD's rounds by their shifts (Rounds), and two of its steps share by share (InTurn).
 pub mod Named
 pub mod Words
 pub mod ByField
 pub mod Rounds
+pub mod InTurn

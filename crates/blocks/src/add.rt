@@ -1,11 +1,13 @@
 // ADD: the Kogge-Stone adder on helper registers H, G, P and T, here h, g, p and s.
 ghost use mathlib.Core.Path.{_≡_};
+ghost use mathlib.Core.List.{[], _∷_};
 ghost use Prim.Native.Nat.{_≤_, _<_};
 ghost use lib.ListN.{length};
 ghost use Rattle.masking.specs.Translation as translation;
 ghost use Rattle.blocks.specs.PlanWords.{IsHelper, OfPlan};
-ghost use Rattle.masking.specs.Translation.{blocks, scratch};
-ghost use Rattle.gadgets.specs.Effects.{Enough, Ran};
+ghost use Rattle.masking.specs.Translation.{blocks, rG, rP, rT, scratch};
+ghost use Rattle.word.specs.declared.step.Step.the-variants.{And, Shl, Xor};
+ghost use Rattle.gadgets.specs.Effects.{Enough, Ran, Still};
 use gadgets::once::Op;
 use gadgets::once::Place;
 use gadgets::once::each;
@@ -24,19 +26,11 @@ const T: usize = H + 3;
 
 const STRIDE: usize = 8;
 
-// T = G SHL k; T = P AND T; G = G XOR T. The operands a and b of its AND are P and T, handed over as `and_of_helpers` asks.
-fn generated(
-    k: u32,
-    a: Place,
-    b: Place,
-    n: usize,
-    tape: &[u64],
-    t: usize,
-    cells: &mut [u64],
-) -> usize
+// T = G SHL k; T = P AND T. The operands a and b of the AND are P and T, handed over as `and_of_helpers` asks.
+fn begun(k: u32, a: Place, b: Place, n: usize, tape: &[u64], t: usize, cells: &mut [u64]) -> usize
     requires { ⌜ (k < 64) × (n ≤ 8) × (length (now cells) ≡ 512) × (2 ≤ n) × IsHelper 2 a × IsHelper 3 b ⌝ }
-    requires { ⌜ Enough (now tape) t (blocks scratch n (translation.generated k)) ⌝ }
-    ensures { λ r. ⌜ Ran (blocks scratch n (translation.generated k)) (now (tape .entry)) t (now (cells .entry)) (now (cells .exit)) r ⌝ }
+    requires { ⌜ Enough (now tape) t (blocks scratch n (Shl rT rG k ∷ And rT rP rT ∷ [])) ⌝ }
+    ensures { λ r. ⌜ Ran (blocks scratch n (Shl rT rG k ∷ And rT rP rT ∷ [])) (now (tape .entry)) t (now (cells .entry)) (now (cells .exit)) r ⌝ }
 {
     let g = Place {
         base: G,
@@ -47,42 +41,61 @@ fn generated(
         stride: STRIDE,
     };
     each(Op::Shl(k), s, g, g, n, cells);
-    let t = and_of_helpers(s, a.base, b.base, n, tape, t, cells);
-    each(Op::Xor, g, g, s, n, cells);
-    t
+    and_of_helpers(s, a.base, b.base, n, tape, t, cells)
 }
 
-// T = P SHL k; P = P AND T, with a and b as above.
+// G = G XOR T; T = P SHL k. Both for one share before the next: share i's helpers are the cells from q on.
+fn merged(k: u32, n: usize, cells: &mut [u64])
+    requires { ⌜ (k < 64) × (n ≤ 8) × (length (now cells) ≡ 512) ⌝ }
+    ensures { λ _. ⌜ Still (blocks scratch n (Xor rG rG rT ∷ Shl rT rP k ∷ [])) (now (cells .entry)) (now (cells .exit)) ⌝ }
+{
+    let mut q = H;
+    let mut i = 0;
+    while i < n {
+        cells[q + 1] = cells[q + 1] ^ cells[q + 3];
+        cells[q + 3] = cells[q + 2] << k;
+        q += STRIDE;
+        i += 1;
+    }
+}
+
+// G = G XOR T; T = P SHL k; P = P AND T, with a and b as above.
 fn passed(k: u32, a: Place, b: Place, n: usize, tape: &[u64], t: usize, cells: &mut [u64]) -> usize
     requires { ⌜ (k < 64) × (n ≤ 8) × (length (now cells) ≡ 512) × (2 ≤ n) × IsHelper 2 a × IsHelper 3 b ⌝ }
-    requires { ⌜ Enough (now tape) t (blocks scratch n (translation.passed k)) ⌝ }
-    ensures { λ r. ⌜ Ran (blocks scratch n (translation.passed k)) (now (tape .entry)) t (now (cells .entry)) (now (cells .exit)) r ⌝ }
+    requires { ⌜ Enough (now tape) t (blocks scratch n (Xor rG rG rT ∷ Shl rT rP k ∷ And rP rP rT ∷ [])) ⌝ }
+    ensures { λ r. ⌜ Ran (blocks scratch n (Xor rG rG rT ∷ Shl rT rP k ∷ And rP rP rT ∷ [])) (now (tape .entry)) t (now (cells .entry)) (now (cells .exit)) r ⌝ }
 {
     let p = Place {
         base: P,
+        stride: STRIDE,
+    };
+    merged(k, n, cells);
+    and_of_helpers(p, a.base, b.base, n, tape, t, cells)
+}
+
+// For k = 1, 2, 4, 8, 16, 32: T = G SHL k; T = P AND T; G = G XOR T and, except after 32, T = P SHL k; P = P AND T. `begun` and
+// `passed` have one call each and the test is at the head, so that the compiler puts both in.
+fn rounds(a: Place, b: Place, n: usize, tape: &[u64], t: usize, cells: &mut [u64]) -> usize
+    requires { ⌜ (n ≤ 8) × (length (now cells) ≡ 512) × (2 ≤ n) × IsHelper 2 a × IsHelper 3 b ⌝ }
+    requires { ⌜ Enough (now tape) t (blocks scratch n translation.rounds) ⌝ }
+    ensures { λ r. ⌜ Ran (blocks scratch n translation.rounds) (now (tape .entry)) t (now (cells .entry)) (now (cells .exit)) r ⌝ }
+{
+    let g = Place {
+        base: G,
         stride: STRIDE,
     };
     let s = Place {
         base: T,
         stride: STRIDE,
     };
-    each(Op::Shl(k), s, p, p, n, cells);
-    and_of_helpers(p, a.base, b.base, n, tape, t, cells)
-}
-
-// For k = 1, 2, 4, 8, 16, 32: `generated` and, except after 32, `passed`. One call of each and the test at the head, so that the compiler
-// puts both in.
-fn rounds(a: Place, b: Place, n: usize, tape: &[u64], t: usize, cells: &mut [u64]) -> usize
-    requires { ⌜ (n ≤ 8) × (length (now cells) ≡ 512) × (2 ≤ n) × IsHelper 2 a × IsHelper 3 b ⌝ }
-    requires { ⌜ Enough (now tape) t (blocks scratch n translation.rounds) ⌝ }
-    ensures { λ r. ⌜ Ran (blocks scratch n translation.rounds) (now (tape .entry)) t (now (cells .entry)) (now (cells .exit)) r ⌝ }
-{
     let mut t = t;
     let mut k = 1;
     while k <= 32 {
-        t = generated(k, a, b, n, tape, t, cells);
+        t = begun(k, a, b, n, tape, t, cells);
         if k < 32 {
             t = passed(k, a, b, n, tape, t, cells);
+        } else {
+            each(Op::Xor, g, g, s, n, cells);
         }
         k = k + k;
     }

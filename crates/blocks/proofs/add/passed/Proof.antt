@@ -1,46 +1,42 @@
--- `blocks::add::passed` meets its contract.
+-- `blocks::add::passed` meets its contract. Rests on InTurn for `merged`, and on gadgets' Running for steps done in parts.
 use mathlib.Core.Path.{_∙_}
-use mathlib.Core.List.{[], _++_}
-use Prim.Native.Nat.{_+_, _-_, _≤_, _<_}
+use mathlib.Core.List.{[], _∷_}
+use Prim.Native.Nat.{_≤_, _<_}
 use native.Mathlib.Omega.{arith}
 use denote.Ref.{now}
 use borrow.Author.Needs.{needs}
-use Rattle.masking.specs.Translation.{scratch, blocks, block, passed, rP, rT}
-use Rattle.gadgets.proofs.Running.{start, part, enough, whole}
-use Rattle.gadgets.specs.declared.once.Op.the-variants as op
-use Rattle.word.specs.declared.step.Step.the-variants.{And, Shl}
-use Rattle.blocks.proofs.Named.{helper-named, helper-placed, once-ran, and-ran, and-enough}
+use Rattle.masking.specs.Translation.{scratch, block, rG, rP, rT}
+use Rattle.gadgets.proofs.Running.{start, part, enough, whole, blocks-part}
+use Rattle.word.specs.declared.step.Step.the-variants.{Xor, And, Shl}
+use Rattle.blocks.proofs.Named.{helper-named, helper-placed, and-ran, and-enough}
+use Rattle.blocks.proofs.InTurn.{ran}
 use Rattle.blocks.proofs.add.passed.Statement.{statement}
 use Rattle.blocks.proofs.add.passed.Tie as tie
 
 and-of-helpers-requires : tie.Need-and-of-helpers-requires
 and-of-helpers-requires c κs =
-    let g = c .before .before .before .before .before .before .before .args in
+    let s = c .before .before .before .before .before .before .before in
+    let g = s .args in
     let n = g .n in
     let k = g .k in
     let tape = now (g .tape) in
     let P = helper-named 2 (omega arith) in
-    let T = helper-named 3 (omega arith) in
-    let u₁ = block scratch n (Shl rT rP k) in
-    let u₂ = block scratch n (And rP rP rT) in
-    let l₁ = part u₁ (u₂ ++ []) (start tape (blocks scratch n (passed k)) (g .t) (now (g .cells))) (once-ran (op.Shl k) n T P P tape (g .t) (c .before .before .before .each .ensures)) in
-    let A = helper-placed (g .a) 2 (c .before .before .before .before .before .before .before .pre .0 .4) (omega arith) in
-    let B = helper-placed (g .b) 3 (c .before .before .before .before .before .before .before .pre .0 .5) (omega arith) in
-    let low : (288 ≤ g .a .base) × (g .a .base < 296) × (288 ≤ g .b .base) × (g .b .base < 296) = omega (arith, c .before .before .before .before .before .before .before .pre .0 .4, c .before .before .before .before .before .before .before .pre .0 .5) in
-    ((c .before .before .before .before .before .before .before .pre .0 .3, c .before .before .before .before .before .before .before .pre .0 .1, l₁ .size ∙ c .before .before .before .before .before .before .before .pre .0 .2, P .register, low .0, low .1, low .2, low .3), and-enough n P A B tape (g .t) (enough u₂ [] l₁ (c .before .before .before .before .before .before .before .pre .1)))
+    let l = blocks-part n (Xor rG rG rT ∷ Shl rT rP k ∷ []) (And rP rP rT ∷ []) (start tape _ (g .t) (now (g .cells))) (ran k n tape (g .t) (c .before .before .before .merged .ensures)) in
+    let A = helper-placed (g .a) 2 (s .pre .0 .4) (omega arith) in
+    let B = helper-placed (g .b) 3 (s .pre .0 .5) (omega arith) in
+    let low : (288 ≤ g .a .base) × (g .a .base < 296) × (288 ≤ g .b .base) × (g .b .base < 296) = omega (arith, s .pre .0 .4, s .pre .0 .5) in
+    ((s .pre .0 .3, s .pre .0 .1, l .size ∙ s .pre .0 .2, P .register, low .0, low .1, low .2, low .3), and-enough n P A B tape (g .t) (enough (block scratch n (And rP rP rT)) [] l (s .pre .1)))
 
 returns : tie.Need-returns
 returns c =
-    let g = c .before .before .before .before .before .before .before .before .before .before .args in
+    let s = c .before .before .before .before .before .before .before .before .before .before in
+    let g = s .args in
     let n = g .n in
     let k = g .k in
     let tape = now (g .tape) in
     let P = helper-named 2 (omega arith) in
-    let T = helper-named 3 (omega arith) in
-    let u₁ = block scratch n (Shl rT rP k) in
-    let u₂ = block scratch n (And rP rP rT) in
-    let l₁ = part u₁ (u₂ ++ []) (start tape (blocks scratch n (passed k)) (g .t) (now (g .cells))) (once-ran (op.Shl k) n T P P tape (g .t) (c .before .before .before .before .before .before .each .ensures)) in
-    whole (part u₂ [] l₁ (and-ran n P (helper-placed (g .a) 2 (c .before .before .before .before .before .before .before .before .before .before .pre .0 .4) (omega arith)) (helper-placed (g .b) 3 (c .before .before .before .before .before .before .before .before .before .before .pre .0 .5) (omega arith)) (c .before .before .and-of-helpers .ensures)))
+    let l = blocks-part n (Xor rG rG rT ∷ Shl rT rP k ∷ []) (And rP rP rT ∷ []) (start tape _ (g .t) (now (g .cells))) (ran k n tape (g .t) (c .before .before .before .before .before .before .merged .ensures)) in
+    whole (part (block scratch n (And rP rP rT)) [] l (and-ran n P (helper-placed (g .a) 2 (s .pre .0 .4) (omega arith)) (helper-placed (g .b) 3 (s .pre .0 .5) (omega arith)) (c .before .before .and-of-helpers .ensures)))
 
 pub passed-spec : {M : Type 1} → statement M
 passed-spec = tie.close (tie.spec
