@@ -29,7 +29,7 @@
  * LUBEWON_SPLIT_TAPE(n) words: step over them. What is proved of secrecy is proved of each call by itself.
  *
  * Calls keep no state and allocate nothing: they may run at once in several threads on slices of their own. They wipe neither stack (some
- * 1.3 KB) nor registers. No branch and no address depends on shares, cells, tape words or the operands of the plain operations: that is tested on
+ * 1 KB) nor registers. No branch and no address depends on shares, cells, tape words or the operands of the plain operations: that is tested on
  * the x86-64 code of this build (tests/constant_time), not proved. For what a register's change may tell on 2 shares see docs/LEAKAGE.md: prefer
  * 3 or more.
  *
