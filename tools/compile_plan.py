@@ -23,7 +23,7 @@ def texts(folder):
     for place, _, names in os.walk(folder):
         for name in names:
             path = os.path.join(place, name)
-            found[os.path.relpath(path, folder)[:-len(".in")]] = open(path).read()
+            found[os.path.relpath(path, folder)[:-len(".in")]] = open(path, encoding="utf-8").read()
     return found
 
 
@@ -49,7 +49,7 @@ def present(folder):
         for place, _, names in os.walk(os.path.join(folder, part)):
             for name in names:
                 path = os.path.join(place, name)
-                found[os.path.relpath(path, folder)] = open(path).read()
+                found[os.path.relpath(path, folder)] = open(path, encoding="utf-8").read()
     return found
 
 
@@ -59,14 +59,18 @@ def write(folder, files):
     for path, text in files.items():
         path = os.path.join(folder, path)
         os.makedirs(os.path.dirname(path), exist_ok=True)
-        with open(path, "w") as file:
+        with open(path, "w", encoding="utf-8") as file:
             file.write(text)
 
 
 def main(arguments):
     config = configparser.ConfigParser()
-    config.read(os.path.join(ROOT, "tools", "plans.ini"))
+    with open(os.path.join(ROOT, "tools", "plans.ini"), encoding="utf-8") as file:
+        config.read_file(file)
     names = [name for name in arguments if name != "--check"] or config.sections()
+    for name in names:
+        if name not in config:
+            raise SystemExit(f"compile_plan: tools/plans.ini has no section {name}")
     status = 0
     for name in names:
         plan = Plan(name, config[name])

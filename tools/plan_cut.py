@@ -13,7 +13,7 @@ def words_of(section):
     words = []
     for part in section["words"].split():
         path, _, names = part.partition(":")
-        text = open(os.path.join(ROOT, path)).read()
+        text = open(os.path.join(ROOT, path), encoding="utf-8").read()
         if not names:
             words += literals(text)
         for name in names.split(",") if names else []:
@@ -79,12 +79,13 @@ class Arm:
 
 
 def arms_of(runs):
+    """the runs in order as arms: the first group whose shift numbers are no larger than their runs' numbers is one, which the match has no key for"""
     arms, k = [], 0
     while k < len(runs):
         last, place = k, number_place(runs, k)
         while place is not None and last + 1 < len(runs) - 1 and number_place(runs, last) == place:
             last += 1
-        if last - k < 2:
+        if last - k < 2 or runs[k][place] & 511 > k or any(arm.place is not None for arm in arms):
             last, place = k, None
         arms.append(Arm(k, last, place, runs[k]))
         k = last + 1
@@ -115,6 +116,8 @@ class Plan:
         if early or not result:
             raise SystemExit(f"compile_plan: {name} " + (f"reads registers {early} before it writes them" if early else "does not write register 2"))
         self.runs, self.gates = cut(self.words)
+        if not self.gates:
+            raise SystemExit(f"compile_plan: {name} has no AND and no ADD")
         self.arms = arms_of(self.runs)
         self.rows = next((arm for arm in self.arms if arm.place is not None), None)
         self.units = sum(1 if word >> 28 == AND else 12 for word in self.gates)

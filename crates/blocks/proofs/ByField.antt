@@ -7,10 +7,9 @@ use Prim.Native.Nat.{ℕ, _≤_, _<_}
 use lib.Dec.{T, eqb, eqb→eq}
 use Rattle.word.specs.declared.step.Step.the-variants.{And, Add}
 use Rattle.word.specs.Encoding.{kindOf, fieldD, fieldA, fieldB, planStep}
-use Rattle.masking.specs.Translation.{scratch, shares, block, blocks, adding, wordsFor, andBlock}
+use Rattle.masking.specs.Translation.{scratch, block, blocks, adding, wordsFor, andBlock}
 use Rattle.masking.specs.Machine.{stepsOf}
 use Rattle.gadgets.specs.declared.once.Place.{Place}
-use Rattle.gadgets.specs.declared.once.Op.{Op}
 use Rattle.gadgets.specs.declared.once.Op.the-variants as op
 use Rattle.gadgets.specs.Effects.{Enough, Ran, Register, at, placed}
 use Rattle.blocks.specs.PlanWords.{GoodPlanWord, OfPlan, isGate}

@@ -1,5 +1,5 @@
 -- Steps on registers in the parts in which they are written: AND's five and the wiping, XOR and SHL share by share, and ADD's 33 one by one;
--- each part's words by where its cells lie. Rests on Rows and on masking's Places, Rising and Wiping.
+-- each part's words by where its cells lie. Rests on masking's Places, Rising and Wiping.
 use mathlib.Core.Path.{_≡_, refl, sym, ap, ap₂, subst, fun-ext, _∙_}
 use mathlib.Core.Logic.{⊎-elim}
 use mathlib.Core.List.{List, [], _∷_, _++_, map}

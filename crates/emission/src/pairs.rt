@@ -77,6 +77,7 @@ fn put_product(a: Cells, i: u8, j: u8, at: usize, out: &mut [u32]) -> usize
     put_word(XOR_T, at, out)
 }
 
+// A fresh word into y_i and y_j.
 fn refresh_pair(i: u8, j: u8, at: usize, out: &mut [u32]) -> usize
     requires { ⌜ i < 8 ⌝ }
     requires { ⌜ j < 8 ⌝ }
@@ -88,6 +89,7 @@ fn refresh_pair(i: u8, j: u8, at: usize, out: &mut [u32]) -> usize
     put_up(XOR_Y, j, at, out)
 }
 
+// The cross products of a pair into z_i and z_j, behind a fresh word.
 fn product_pair(a: Cells, i: u8, j: u8, at: usize, out: &mut [u32]) -> usize
     requires { ⌜ Fits a ⌝ }
     requires { ⌜ i < 8 ⌝ }

@@ -1,5 +1,5 @@
 -- A call over any plan, by its answer: what its parts ask for and what it leaves. The operation with a result slice of its own and the one in
--- place, whose result slice is the first operand, are proved by it. So are both forms of the product (`operations`). Rests on Plans, Answering and Tape.
+-- place, whose result slice is the first operand, are proved by it in each compiled plan's crate. Rests on Plans, Answering and Tape.
 use mathlib.Core.Path.{_≡_, ap, _∙_}
 use mathlib.Core.List.{List}
 use Prim.Native.Nat.{ℕ, _-_, _*_, _≤_}

@@ -5,6 +5,7 @@ ghost use lib.ListN.{length, replicate};
 ghost use Rattle.execution.specs.Shares.{placedIn, sharesOf};
 use word::step_word::StepWord;
 
+// One run of zeros.
 fn zeros(cells: &mut [u64])
     ensures { λ _. ⌜ now (cells .exit) ≡ replicate (length (now (cells .entry))) 0 ⌝ }
 {
@@ -30,6 +31,7 @@ fn part_end(at: usize, length: usize) -> usize
     }
 }
 
+// A piece of the slice, part by part.
 fn clear_by_parts(cells: &mut [u64])
     ensures { λ _. ⌜ now (cells .exit) ≡ replicate (length (now (cells .entry))) 0 ⌝ }
 {

@@ -9,7 +9,6 @@ use lib.Dec.{T, ltb, ltb→lt}
 use lib.ListN.{length, getD, set, drop, length-set}
 use lib.Seq.{getD-set-same, getD-set-other, set-set, set-comm, getD-drop}
 use Rattle.bits.specs.Ops.{xorW}
-use Rattle.word.specs.declared.step.Step.{Step}
 use Rattle.word.specs.declared.step.Step.the-variants.{Shl}
 use Rattle.word.proofs.Ranges.{both}
 use Rattle.masking.specs.Translation.{Pair, pairs, refresh, scratch, shares, upFrom}

@@ -1,5 +1,5 @@
-// The end of AND: its scratch cells hold nothing of its operands. This comes after the copy of z to d, not after the last use of t and u:
-// the stores to these keep masked sums apart, and right before a wipe they would be dead to the compiler. tests/leakage looks at its code.
+// The end of AND: its scratch cells hold nothing of its operands. This comes after the copy of z to d, not after the last use of t:
+// the stores to it keep masked sums apart, and right before a wipe they would be dead to the compiler. tests/leakage looks at its code.
 ghost use mathlib.Core.Path.{_≡_};
 ghost use Prim.Native.Nat.{_≤_};
 ghost use lib.ListN.{length};

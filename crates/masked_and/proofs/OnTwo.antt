@@ -1,5 +1,5 @@
 -- AND on two shares in locals: its stores to d and the wiping leave the cells as its share steps do. The parts are taken one by one on cells with y and z stored,
--- which the wiping forgets. Rests on Parts and Stores, and on gadgets' ShareTurns and RowTurns.
+-- which the wiping forgets. Rests on Stores, on conjunction's Parts, and on gadgets' ShareTurns and RowTurns.
 use mathlib.Core.Path.{_≡_, refl, sym, ap, ap₂, _∙_, subst}
 use mathlib.Core.List.{List}
 use Prim.Native.Nat.{ℕ, _+_, _^_, _<_}

@@ -1,4 +1,4 @@
--- The work slice at the start: operands of at most eight words in registers 0 and 1, all else 0. Rests on masking's Cells (stores keep words).
+-- The work slice at the start: operands of at most eight words in registers 0 and 1, all else 0. Rests on plain's Laws (stores keep words), masking's Sums and execution's Filling.
 use mathlib.Core.Path.{_≡_, refl, sym, ap, ap₂, _∙_}
 use mathlib.Core.List.{List, [], _∷_}
 use Prim.Native.Nat.{ℕ, zero, suc, _+_, _≤_, _<_}

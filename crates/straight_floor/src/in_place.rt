@@ -11,6 +11,7 @@ use execution::one_operand::at_most_eight;
 use execution::operation::end;
 use execution::operation::operation_answer;
 
+// The same, with x for the result slice.
 fn call(x: &mut [u64], y: &[u64], work: &mut [u64], tape: &[u64]) -> Answer
     ensures answer { λ r. ⌜ r ≡ callAnswer floorPlan (now (x .entry)) (now (y .entry)) (now (x .entry)) (now (work .entry)) (now (tape .entry)) ⌝ }
     ensures x { λ _. ⌜ now (x .exit) ≡ resultAfter floorPlan (now (x .entry)) (now (y .entry)) (now (x .entry)) (now (work .entry)) (now (tape .entry)) ⌝ }

@@ -26,6 +26,7 @@ pub(crate) fn finish(x: &[u64], y: &[u64], tape: &[u64], work: &mut [u64])
     done(x.len(), tape, 0, work);
 }
 
+// The answer first; only where it is no turn-down is anything written.
 fn call(x: &[u64], y: &[u64], result: &mut [u64], work: &mut [u64], tape: &[u64]) -> Answer
     ensures answer { λ r. ⌜ r ≡ callAnswer nearestPlan (now (x .entry)) (now (y .entry)) (now (result .entry)) (now (work .entry)) (now (tape .entry)) ⌝ }
     ensures result { λ _. ⌜ now (result .exit) ≡ resultAfter nearestPlan (now (x .entry)) (now (y .entry)) (now (result .entry)) (now (work .entry)) (now (tape .entry)) ⌝ }

@@ -9,6 +9,7 @@ use checks::answer::Answer;
 use execution::operation::end;
 use execution::operation::operation_answer;
 
+// The same, with x for the result slice.
 pub fn call(x: &mut [u64], y: &[u64], work: &mut [u64], tape: &[u64]) -> Answer
     ensures answer { λ r. ⌜ r ≡ callAnswer productPlan (now (x .entry)) (now (y .entry)) (now (x .entry)) (now (work .entry)) (now (tape .entry)) ⌝ }
     ensures x { λ _. ⌜ now (x .exit) ≡ resultAfter productPlan (now (x .entry)) (now (y .entry)) (now (x .entry)) (now (work .entry)) (now (tape .entry)) ⌝ }

@@ -1,4 +1,4 @@
--- The pairs of a layer on shares: what the loop over them keeps. Rests on Holding, and on complex's Laws, Tape and Laid.
+-- The pairs of a layer on shares: what the loop over them keeps. Rests on complex's Laws, Tape and Laid.
 use mathlib.Core.Path.{_≡_, refl, sym, ap, _∙_}
 use mathlib.Core.List.{List}
 use Prim.Native.Nat.{ℕ, suc, _+_, _*_, _/_, _≤_, _<_}

@@ -1,4 +1,4 @@
--- The sums over a plan's words (Measure), and what the answers say of the plan. Rests on word's Small and Checking.
+-- The sums over a plan's words (Measure), and what the answers say of the plan. Rests on word's Small and on checks' Passed and Checked.
 use mathlib.Core.Path.{_≡_, refl, sym, ap, _∙_}
 use mathlib.Core.Bool.{Bool, true, false, not}
 use mathlib.Core.List.{List, _∷_}

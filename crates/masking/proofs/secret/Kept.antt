@@ -1,6 +1,6 @@
 -- Agreement in one share is kept: over paired tapes two runs of a plan's whole program that start in agreement in a share end so. The row of
 -- gadgets with no marks asks before it for the share asked for after it, and for no other. Rests on Gadgets for the row, on Hidden for the
--- pairing, and as Secret does on Steps and Counts for the words that the translation writes.
+-- pairing, and on Secret and emitted's Steps for the words that the translation writes.
 use mathlib.Core.Path.{_≡_, sym, subst, _∙_}
 use mathlib.Core.Bool.{Bool}
 use mathlib.Core.List.{List, [], _∷_, map}

@@ -7,7 +7,7 @@ use mathlib.Core.Logic.{⊎-elim}
 use Prim.Native.Nat.{ℕ, zero, suc, _/_, _<_, _≤_}
 use native.Mathlib.Omega.{arith}
 use lib.Dec.{T, ltb, ltb→lt, lt→ltb}
-use lib.ListN.{length, getD, take, length-map}
+use lib.ListN.{length, getD, length-map}
 use Rattle.word.specs.declared.step.Step.{Step}
 use Rattle.word.specs.declared.step.Step.the-variants.{Const, Xor, And, Not, Shl, Shr, Spread, Add, Rand}
 use Rattle.word.specs.Encoding.{fieldD, put, wordOf, planStep, inProgram}

@@ -1,5 +1,4 @@
--- The product's plan in its parts and word by word, from a head, the number of a row and a tail: computed for each of its words. Each part has no bad word.
--- Rests on WellFormed and Tests.
+-- The product's plan in its parts and word by word, from a head, the number of a row and a tail: computed for each of its words. Rests on Tests.
 use mathlib.Core.Path.{_≡_, refl, ap, _∙_}
 use mathlib.Core.Bool.{Bool}
 use mathlib.Core.List.{List, _∷_, _++_, map, map-append}
