@@ -11,7 +11,7 @@ import os
 import shutil
 import sys
 
-from plan_cut import ROOT, Plan
+from plan_cut import ROOT, Plan, refuse
 from plan_text import parts
 
 TEXTS = os.path.join(ROOT, "tools", "straight")
@@ -23,7 +23,8 @@ def texts(folder):
     for place, _, names in os.walk(folder):
         for name in names:
             path = os.path.join(place, name)
-            found[os.path.relpath(path, folder)[:-len(".in")]] = open(path, encoding="utf-8").read()
+            if name.endswith(".in"):
+                found[os.path.relpath(path, folder)[:-len(".in")]] = open(path, encoding="utf-8").read()
     return found
 
 
@@ -63,24 +64,40 @@ def write(folder, files):
             file.write(text)
 
 
+def sections():
+    config = configparser.ConfigParser(interpolation=None)
+    try:
+        with open(os.path.join(ROOT, "tools", "plans.ini"), encoding="utf-8") as file:
+            config.read_file(file)
+    except configparser.Error as error:
+        refuse(str(error))
+    return config
+
+
+def left_over(config):
+    """crates that the compiler wrote for sections that are gone"""
+    crates = os.path.join(ROOT, "crates")
+    return [name for name in sorted(os.listdir(crates)) if name.startswith("straight_") and name[len("straight_"):] not in config]
+
+
 def main(arguments):
-    config = configparser.ConfigParser()
-    with open(os.path.join(ROOT, "tools", "plans.ini"), encoding="utf-8") as file:
-        config.read_file(file)
-    names = [name for name in arguments if name != "--check"] or config.sections()
+    config, check = sections(), "--check" in arguments
+    names = [name for name in arguments if name != "--check"]
     for name in names:
         if name not in config:
-            raise SystemExit(f"compile_plan: tools/plans.ini has no section {name}")
-    status = 0
-    for name in names:
+            refuse(f"tools/plans.ini has no section {name}; usage: compile_plan.py [--check] [NAME..]")
+    wrong = [f"crates/{name} has no section in tools/plans.ini" for name in left_over(config) if check and not names]
+    for name in names or config.sections():
         plan = Plan(name, config[name])
         folder, files = os.path.join(ROOT, "crates", plan.crate), files_of(plan)
-        if "--check" not in arguments:
+        if not check:
             write(folder, files)
+            print(f"crates/{plan.crate}: {plan.figures()}")
         elif present(folder) != files:
-            print(f"compile_plan: crates/{plan.crate} is not what the compiler writes", file=sys.stderr)
-            status = 1
-    return status
+            wrong.append(f"crates/{plan.crate} is not what the compiler writes")
+    for text in wrong:
+        print(f"compile_plan: {text}", file=sys.stderr)
+    return 1 if wrong else 0
 
 
 sys.exit(main(sys.argv[1:]))

@@ -5,7 +5,11 @@ import re
 
 ROOT = os.path.dirname(os.path.dirname(os.path.abspath(__file__)))
 SIZES = [(16, "sixteen"), (8, "eight"), (4, "four"), (2, "two"), (1, "linear")]
-CONST, XOR, AND, SHR, ADD = 1, 2, 3, 6, 8
+CONST, XOR, AND, NOT, SHL, SHR, SPREAD, ADD = range(1, 9)
+
+
+def refuse(text):
+    raise SystemExit("compile_plan: " + text)
 
 
 def words_of(section):
@@ -13,30 +17,67 @@ def words_of(section):
     words = []
     for part in section["words"].split():
         path, _, names = part.partition(":")
-        text = open(os.path.join(ROOT, path), encoding="utf-8").read()
+        try:
+            text = open(os.path.join(ROOT, path), encoding="utf-8").read()
+        except OSError as error:
+            refuse(f"{path}: {error.strerror}")
         if not names:
-            words += literals(text)
+            words += literals(path, text)
         for name in names.split(",") if names else []:
-            name, _, times = name.partition("*")
-            table = literals(re.search(r"const %s: [^=]*= \[(.*?)\];" % name, text, re.S)[1])
-            rows = [[table[0] + q] + table[1:] for q in range(int(times))] if times else [table]
-            words += [word for row in rows for word in row]
+            words += constant(path, text, name)
     return words
 
 
-def literals(text):
-    return [int(word, 16) for word in re.findall(r"\b0x([0-9A-Fa-f]{8})\b", text)]
+def constant(path, text, named):
+    """the words of a constant of a file, NAME, or NAME*N"""
+    name, _, times = named.partition("*")
+    found = re.search(r"const %s: [^=]*= \[(.*?)\];" % re.escape(name), text, re.S)
+    if not found or not re.fullmatch(r"\d*", times):
+        refuse(f"{path} has no constant {named}")
+    table = literals(path, found[1])
+    return [word + q if j == 0 else word for q in range(int(times or 1)) for j, word in enumerate(table)]
 
 
-def reads_first(words):
-    """the registers but 0 and 1 that are read before they are written, and whether register 2 is written: what the proofs ask for"""
-    known, early = {0, 1}, set()
-    for word in words:
-        kind, d, a, b = word >> 28, word >> 18 & 511, word >> 9 & 511, word & 511
-        early |= ({a} if kind != CONST else set()) - known
-        early |= ({b} if kind in (XOR, AND, ADD) else set()) - known
+def literals(path, text):
+    """The words of a text, without what stands in comments. One that is not 0x and eight digits would be lost, and nothing later could miss it."""
+    found = re.findall(r"\b0x\w*", re.sub(r"//.*", "", text))
+    for word in found:
+        if not re.fullmatch(r"0x[0-9A-Fa-f]{8}", word):
+            refuse(f"{path}: {word} is not 0x and eight digits")
+    return [int(word, 16) for word in found]
+
+
+def fields(word):
+    return word >> 28, word >> 18 & 511, word >> 9 & 511, word & 511
+
+
+def is_good(word):
+    """document 01's rule for a plan's word"""
+    kind, d, a, b = fields(word)
+    if word >> 27 & 1 or d > 31 or not 1 <= kind <= 8:
+        return False
+    return kind == CONST or a < 32 and b < {XOR: 32, AND: 32, NOT: 1, SHL: 64, SHR: 64, SPREAD: 1, ADD: 32}[kind]
+
+
+def checked(name, words, operands):
+    """The words, where they are a plan that can be compiled. The prover would refuse what is refused here too, without saying what is wrong."""
+    bad = next((k for k, word in enumerate(words) if not is_good(word)), None)
+    if bad is not None:
+        refuse(f"{name}: word {bad}, 0x{words[bad]:08X}, is bad")
+    if len(words) > 2048:
+        refuse(f"{name} has {len(words)} words, more than 2,048")
+    known = set(range(operands))
+    for k, word in enumerate(words):
+        kind, d, a, b = fields(word)
+        read = ({a} if kind != CONST else set()) | ({b} if kind in (XOR, AND, ADD) else set())
+        if read - known:
+            refuse(f"{name}: word {k} reads register {min(read - known)}, which is no operand and is not written before")
         known.add(d)
-    return sorted(early), 2 in known
+    if 2 not in known - set(range(operands)):
+        refuse(f"{name} does not write register 2")
+    if not any(word >> 28 in (AND, ADD) for word in words):
+        refuse(f"{name} has no AND and no ADD")
+    return words
 
 
 def cut(words):
@@ -61,10 +102,15 @@ def number_place(runs, k):
 
 
 class Arm:
-    """Runs first to last by one text; `place` is the word that has the number, None for a single run."""
+    """Runs first to last by one text; `place` is the word that has the number, None for a single run; `order` has the places of the words in the order in
+    which the code does them, None for the plan's."""
 
     def __init__(self, first, last, place, words):
-        self.first, self.last, self.place, self.words = first, last, place, words
+        self.first, self.last, self.place, self.words, self.order = first, last, place, words, None
+
+    def done(self):
+        """the words in the code's order, None for the one that has the number"""
+        return [None if j == self.place else self.words[j] for j in self.order or range(len(self.words))]
 
     def base(self):
         return self.words[self.place] & ~511
@@ -101,36 +147,67 @@ def calls_of(words):
     return calls
 
 
+def touched(word):
+    """the register that a linear word sets, and those that it reads"""
+    kind, d, a, b = fields(word)
+    return d, {CONST: set(), XOR: {a, b}}.get(kind, {a})
+
+
+def may_pass(word, earlier):
+    """whether a linear word may be done before one that stands before it"""
+    (d, read), (e, read_before) = touched(word), touched(earlier)
+    return d != e and d not in read_before and e not in read
+
+
+def put_in_order(name, arms, text):
+    """the orders that a section gives, a line RUN: PLACES for each, into their arms"""
+    for line in text.strip().splitlines():
+        run, _, places = line.partition(":")
+        arm = next((arm for arm in arms if str(arm.first) == run.strip()), None)
+        order = [int(place) for place in places.split() if place.isdigit()]
+        if arm is None or sorted(order) != list(range(len(arm.words))):
+            refuse(f"{name}: order {line!r} does not name a run and the places of its words")
+        passed = [(j, i) for at, j in enumerate(order) for i in order[at + 1:] if i < j and not may_pass(arm.words[j], arm.words[i])]
+        if passed:
+            refuse(f"{name}: in run {arm.first} word {passed[0][0]} may not be done before word {passed[0][1]}")
+        arm.order = order
+
+
 class Plan:
     """A section of plans.ini with its plan cut. `plan` is the definition that the prover knows, `unfold` what has to be unfolded to compute its words;
     without a definition the crate gets one of its own, the words as they stand."""
 
     def __init__(self, name, section):
-        self.crate, self.title = "straight_" + name, section["title"]
+        if not re.fullmatch(r"[a-z][a-z0-9]*", name):
+            refuse(f"{name} is no name: small letters and digits, a letter first")
+        if not section.get("title") or not section.get("words") or section.get("operands") not in ("1", "2"):
+            refuse(f"{name} wants a title, words, and 1 or 2 operands")
+        self.name, self.crate, self.title = name, "straight_" + name, section["title"]
         self.own = "plan" not in section
         own = "Rattle.%s.specs.Plan.%sPlan" % (self.crate, name)
-        self.module, self.plan = section.get("plan", own).rsplit(".", 1)
+        self.module, _, self.plan = section.get("plan", own).rpartition(".")
         self.unfold, self.operands = section.get("unfold", "").split(), int(section["operands"])
-        self.words = words_of(section)
-        early, result = reads_first(self.words)
-        if early or not result:
-            raise SystemExit(f"compile_plan: {name} " + (f"reads registers {early} before it writes them" if early else "does not write register 2"))
+        self.words = checked(name, words_of(section), self.operands)
         self.runs, self.gates = cut(self.words)
-        if not self.gates:
-            raise SystemExit(f"compile_plan: {name} has no AND and no ADD")
         self.arms = arms_of(self.runs)
+        put_in_order(name, self.arms, section.get("order", ""))
         self.rows = next((arm for arm in self.arms if arm.place is not None), None)
         self.units = sum(1 if word >> 28 == AND else 12 for word in self.gates)
         self.same = next((k for k, word in enumerate(self.gates) if word != self.gates[0]), len(self.gates))
 
     def adds(self):
-        return any(word >> 28 == ADD for word in self.gates)
+        return sum(word >> 28 == ADD for word in self.gates)
+
+    def figures(self):
+        return f"{len(self.words)} words, {len(self.gates) - self.adds()} ANDs, {self.adds()} ADDs, {self.units} n(n-1) tape words"
 
     def calls(self, arm):
         """the calls of an arm: a function's name and its words, or None for the word with the number"""
+        words = arm.done()
         if arm.place is None:
-            return calls_of(arm.words)
-        return calls_of(arm.words[:arm.place]) + [("shifted", None)] + calls_of(arm.words[arm.place + 1:])
+            return calls_of(words)
+        at = words.index(None)
+        return calls_of(words[:at]) + [("shifted", None)] + calls_of(words[at + 1:])
 
     def key(self, arm):
         return "_" if arm is (self.rows or self.arms[-1]) else "%d" % arm.first

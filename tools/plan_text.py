@@ -32,6 +32,11 @@ def listed(words):
     return "".join("%d ∷ " % word for word in words) + "[]"
 
 
+def by_number(base, words):
+    """a list of words by a number q, that stands in the word which is None"""
+    return "".join("(%d + q) ∷ " % base if word is None else "%d ∷ " % word for word in words) + "[]"
+
+
 def hexed(word):
     return "0x%08X" % word
 
@@ -55,13 +60,13 @@ def lists(plan):
 
 
 def row_lists(plan, after):
-    words = ["%d" % word for word in plan.rows.words]
-    words[plan.rows.place] = "(%d + q)" % plan.rows.base()
-    first = "".join("(%s) ∷ " % listed(run) for run in plan.runs[:plan.rows.first])
+    rows = plan.rows
+    words = by_number(rows.base(), rows.words[:rows.place] + [None] + rows.words[rows.place + 1:])
+    first = "".join("(%s) ∷ " % listed(run) for run in plan.runs[:rows.first])
     return f"""
 -- the runs that differ in a shift number, by that number
 abbrev pub row : ℕ → List ℕ
-row q = {" ∷ ".join(words)} ∷ []
+row q = {words}
 
 -- the runs before them
 abbrev pub first : List (List ℕ)
@@ -118,22 +123,38 @@ def on_share_proof(plan):
             needs += asked(plan, arm, words, len(places))
             places.append(name + ("" if seen[name] == 1 else str(seen[name])))
         count = len(places)
-        facts = [run_fact(plan, arm, number, count)]
-        facts += [f"{before(2 + 4 * (count - 1 - l))} .{places[l]} .ensures" for l in reversed(range(count))]
+        run, calls = run_fact(plan, arm, number, count), [f"{before(2 + 4 * (count - 1 - l))} .{places[l]} .ensures" for l in reversed(range(count))]
         need = "returns" + ("" if number == 0 else f"-{number + 1}")
         ends += [SEARCH, need] if count else [need]
-        returns.append(f"{need} : tie.Need-{need}\n{need} c = rw ({', '.join(facts)})\n")
+        returns.append(f"{need} : tie.Need-{need}\n{need} c = {shown(plan, arm, run, calls)}\n")
     return {"ON_SHARE_USES": on_share_uses(plan), "NUMBERED": numbered_run(plan), "RETURNS": "\n".join(returns), "ON_SHARE_ENDS": wrapped(needs + ends)}
 
 
+def shown(plan, arm, run, calls):
+    """that an arm's calls do its run"""
+    if not arm.order:
+        return f"rw ({', '.join([run] + calls)})"
+    given = before(4 * len(calls) + 2) + " .args"
+    if arm.place is None:
+        us, is_run = ("lastRun", run) if plan.key(arm) == "_" else (f"(getD runs {arm.first} lastRun)", f"ap (λ (k : ℕ). getD runs k lastRun) ({run})")
+        return f"in-order ({listed(arm.done())}) {us} ({given} .i) (now ({given} .cells)) (rw ({', '.join(calls)})) ({is_run}) tt"
+    q = f"({given} .k - {arm.offset()})"
+    test = f"at {arm.number() + arm.last - arm.first + 1} (λ q. reorders (row q) (row-done q)) {q} tt (omega (arith, {stands(plan, arm, 4 * len(calls))}))"
+    return f"in-order (row-done {q}) (row {q}) ({given} .i) (now ({given} .cells)) (rw ({', '.join(calls)})) ({run}) ({test})"
+
+
 def on_share_uses(plan):
-    spec = "Rattle·@CRATE@·specs.specs.Runs"
-    if not plan.rows:
-        return "\n".join(["use borrow.Author.Needs.{needs}", "use Rattle.straight.proofs.Rest.{past}", f"use {spec}.{{lastRun, runs}}"])
-    return "\n".join([
-        "use mathlib.Core.Path.{_≡_, refl, ap, _∙_}", "use Prim.Native.Nat.{ℕ, _-_, _≤_, _<_}", "use native.Mathlib.Omega.{arith}",
-        "use lib.ListN.{getD}", "use borrow.Author.Needs.{needs}", "use Rattle.straight.proofs.Rest.{between, numbered}",
-        f"use {spec}.{{after, first, lastRun, row, runs}}"])
+    spec, rows = "Rattle·@CRATE@·specs.specs.Runs", plan.rows
+    single, numbered = any(arm.order for arm in plan.arms if arm is not rows), rows and rows.order
+    uses = ["use mathlib.Core.Path.{_≡_, refl, ap, _∙_}"] if rows else ["use mathlib.Core.Path.{ap}"] if single else []
+    uses += ["use mathlib.Core.List.{" + ("List, " if numbered else "") + "[], _∷_}"] if single or numbered else []
+    uses += ["use Prim.Native.Nat.{ℕ, " + ("_+_, " if numbered else "") + "_-_, _≤_, _<_}", "use native.Mathlib.Omega.{arith}"] if rows else ["use Prim.Native.Nat.{ℕ}"] if single else []
+    uses += ["use denote.Ref.{now}"] if single or numbered else []
+    uses += ["use lib.ListN.{getD}"] if rows or single else []
+    uses += ["use borrow.Author.Needs.{needs}"]
+    uses += ["use Rattle.straight.proofs.Reorder.{" + ("at, " if numbered else "") + "in-order" + (", reorders" if numbered else "") + "}"] if single or numbered else []
+    uses += ["use Rattle.straight.proofs.Rest.{" + ("between, numbered" if rows else "past") + "}"]
+    return "\n".join(uses + [f"use {spec}.{{" + ("after, first, lastRun, row, runs" if rows else "lastRun, runs") + "}"])
 
 
 def numbered_run(plan):
@@ -142,7 +163,12 @@ def numbered_run(plan):
     if not rows:
         return ""
     low, high = rows.first, rows.last + 1
-    return f"""numbered-run : (k : ℕ) → ({low} ≤ k) × (k < {high}) → getD runs k lastRun ≡ row (k - {rows.offset()})
+    done = f"""-- its words in the order in which they are done
+abbrev row-done : ℕ → List ℕ
+row-done q = {by_number(rows.base(), rows.done())}
+
+""" if rows.order else ""
+    return done + f"""numbered-run : (k : ℕ) → ({low} ≤ k) × (k < {high}) → getD runs k lastRun ≡ row (k - {rows.offset()})
 numbered-run k h = numbered row after lastRun first {rows.number()} {high - low} k (h .0) (h .1) ∙ ap row (omega (arith, h .0))
 
 """

@@ -10,7 +10,6 @@ use Rattle.word.specs.Encoding.{kindOf, fieldD, fieldA, fieldB, planStep}
 use Rattle.masking.specs.Translation.{scratch, block, blocks, adding, wordsFor, andBlock}
 use Rattle.masking.specs.Machine.{stepsOf}
 use Rattle.gadgets.specs.declared.once.Place.{Place}
-use Rattle.gadgets.specs.declared.once.Op.the-variants as op
 use Rattle.gadgets.specs.Effects.{Enough, Ran, Register, at, placed}
 use Rattle.blocks.specs.PlanWords.{GoodPlanWord, OfPlan, isGate}
 use Rattle.masking.proofs.emitted.Tests.{or-elim}

@@ -32,7 +32,7 @@ helper-same h = λ k i. by i k
     by i = let e : 288 + h + i * 8 ≡ 288 + 8 * i + (32 + h - 32) = omega arith in e ∙ sym (share-helper i (32 + h) (omega arith))
 
 helper-register : (h : ℕ) → h < 8 → Register (helperAt h)
-helper-register h l = record { inside = omega arith; away = λ i c i8 lo hi e. omega arith }
+helper-register h l = record { inside = omega arith; spread = omega arith; away = λ i c i8 lo hi e. omega arith }
 
 pub helper-named : (h : ℕ) → h < 8 → Named (helperAt h) (32 + h)
 helper-named h l = record { same = helper-same h; register = helper-register h l }
@@ -48,7 +48,7 @@ module _ (p : Place) (o : OfPlan p) where
       by i = let e : p .base + i * 32 ≡ 32 * i + p .base = omega arith in at-plan i ∙ e ∙ sym (share-register i (p .base) (o .0))
 
   plan-register : Register p
-  plan-register = record { inside = omega (arith, o .0, o .1); away = λ i c i8 lo hi e. omega (arith, at-plan i, o .0) }
+  plan-register = record { inside = omega (arith, o .0, o .1); spread = omega (arith, o .1); away = λ i c i8 lo hi e. omega (arith, at-plan i, o .0) }
 
   pub plan-named : Named p (p .base)
   plan-named = record { same = plan-same; register = plan-register }

@@ -24,7 +24,7 @@ const P: usize = H + 2;
 
 const T: usize = H + 3;
 
-const STRIDE: usize = 8;
+const STRIDE: usize = StepWord::HELPER_SHARE as usize;
 
 // T = G SHL k; T = P AND T. The operands a and b of the AND are P and T, handed over as `and_of_helpers` asks.
 fn begun(k: u32, a: Place, b: Place, n: usize, tape: &[u64], t: usize, cells: &mut [u64]) -> usize
@@ -103,7 +103,7 @@ fn rounds(a: Place, b: Place, n: usize, tape: &[u64], t: usize, cells: &mut [u64
 }
 
 // d = a + b for registers of a plan.
-pub fn add_shares(
+pub(crate) fn add_shares(
     d: Place,
     a: Place,
     b: Place,

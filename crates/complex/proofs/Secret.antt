@@ -23,6 +23,7 @@ use Rattle.execution.specs.Shares.{placed}
 use Rattle.execution.proofs.Filling.{placed-size}
 use Rattle.operations.specs.Masked.{Operand}
 use Rattle.operations.proofs.Masked.{masked}
+use Rattle.operations.proofs.Secret.{from-zeros}
 use Rattle.complex.specs.Acts.{Act, Call, Slots, onShares, actTape, tapeFor, runShares}
 use Rattle.complex.specs.Secrecy.{Shared, AgreeIn, PutsWords, startOf, wordsBefore, partOf, doneIn, ActsSecret}
 use Rattle.complex.proofs.Laws.{tape-append}
@@ -153,7 +154,7 @@ acts-secret n least most o step inside =
       share = H .share;
       below = H .below;
       hidden = λ before k a b after w s s′ S S′ g.
-          let I = hidden-in n least most o k a b after step (H .share) (H .below) (H .hidden) before w s s′ S S′ g in
+          let I = hidden-in n least most o k a b after step (H .share) (H .below) (from-zeros H) before w s s′ S S′ g in
           record {
             pairing = I .pairing;
             reached = λ tape h. (

@@ -9,11 +9,11 @@ use Rattle.gadgets.specs.Effects.{Enough, Ran, Register, at, placed}
 
 -- a plan's register
 pub plan-register : (a : ℕ) → a < 32 → Register (placed a 32)
-plan-register a h = record { inside = omega arith; away = λ i c i8 lo hi e. omega arith }
+plan-register a h = record { inside = omega arith; spread = omega arith; away = λ i c i8 lo hi e. omega arith }
 
 -- ADD's helper register
 pub helper-register : (a : ℕ) → 288 ≤ a → a < 296 → Register (placed a 8)
-helper-register a l h = record { inside = omega arith; away = λ i c i8 lo hi e. omega arith }
+helper-register a l h = record { inside = omega arith; spread = omega arith; away = λ i c i8 lo hi e. omega arith }
 
 module _ {n m : ℕ} (e : n ≡ m) (d a b : ℕ → ℕ) (tape : List ℕ) (t : ℕ) where
   pub enough-for : Enough tape t (andBlock scratch n d a b) → Enough tape t (andBlock scratch m d a b)

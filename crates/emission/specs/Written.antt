@@ -1,4 +1,4 @@
--- Names for what the parts of Translate write, by masking's definitions, cited by inner functions only: nothing here has to be believed.
+-- Names for what the parts of Translate write, by masking's definitions, cited by inner functions and their proofs only: nothing here has to be believed.
 use mathlib.Core.Path.{_≡_}
 use mathlib.Core.Bool.{cond}
 use mathlib.Core.List.{List, [], _∷_, map}

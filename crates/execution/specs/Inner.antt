@@ -1,4 +1,4 @@
--- Names that inner contracts cite: nothing here has to be believed.
+-- Names that proofs cite: nothing here has to be believed.
 use mathlib.Core.Path.{_≡_}
 use mathlib.Core.List.{List}
 use Prim.Native.Nat.{ℕ, _-_, _*_, _≤_}

@@ -34,7 +34,8 @@ placedIn r i (x ∷ xs) cells = placedIn r (suc i) xs (set cells (cell i r) x)
 abbrev pub placedOver : List ℕ → List ℕ → List ℕ → List ℕ
 placedOver x y cells = placedIn 1 0 y (placedIn 0 0 x cells)
 
--- "Work starts as zeros with operands placed"
+-- "Work starts as zeros with operands placed". The code places them over what the work slice holds; that its results are those from zeros is
+-- proved (masking/specs/Reads, and operations/specs/Masked for each step's word).
 unfoldable pub placed : List ℕ → List ℕ → List ℕ
 placed x y = placedOver x y (replicate 512 0)
 

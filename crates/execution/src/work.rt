@@ -66,6 +66,10 @@ pub fn place(x: &[u64], y: &[u64], cells: &mut [u64])
     }
 }
 
+// A cell that is zero after every AND: it goes through the register between two shares, so that no share follows another there. The compiler, which does not
+// know that the slices are apart, keeps the store (tests/leakage).
+const WIPED: usize = StepWord::T as usize;
+
 // The shares of register 2.
 pub(crate) fn copy_out(cells: &[u64], result: &mut [u64])
     requires { ⌜ (length (now result) ≤ 8) × (length (now cells) ≡ 512) ⌝ }
@@ -73,6 +77,7 @@ pub(crate) fn copy_out(cells: &[u64], result: &mut [u64])
 {
     let mut i = 0;
     while i < result.len() {
+        result[i] = cells[WIPED];
         result[i] = cells[StepWord::REGISTERS * i + 2];
         i += 1;
     }

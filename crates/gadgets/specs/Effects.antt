@@ -52,9 +52,10 @@ onceStep (op.Shl k) d a b i = Shl (d i) (a i) k
 
 -- ---- pairs of shares
 
--- a place whose shares are cells outside AND's scratch
+-- a place whose shares are different cells outside AND's scratch
 pub record Register (p : Place) : Type 0 where
   pub inside : InCells p
+  pub spread : 0 < p .stride
   pub away : (i c : ℕ) → i < 8 → 256 ≤ c → c < 288 → at p i ≡ c → ⊥
 
 -- the cells after the refresh of one pair by the word r
@@ -84,7 +85,8 @@ placed b over = record { base = b; stride = over }
 pub record Alike (c c' : List ℕ) : Type 0 where
   pub same : set (set c 272 0) 273 0 ≡ set (set c' 272 0) 273 0
 
--- steps done from place t of the tape on, whatever t and u held before and hold after: the code has in locals what the steps put there
+-- steps done from place t of the tape on, whatever t and u held before and hold after: the code has in locals what the steps put into u, and some of what they
+-- put into t
 pub record Nearly (ss : List Step) (tape : List ℕ) (t : ℕ) (before after : List ℕ) (next : ℕ) : Type 0 where
   pub cells : (c : List ℕ) → Alike before c → Alike after (execSteps ss (drop t tape) c)
   pub place : next ≡ t + randsOf ss

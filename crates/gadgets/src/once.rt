@@ -18,7 +18,7 @@ pub enum Op {
     Shl(u32),
 }
 
-pub fn value(op: Op, x: u64, y: u64) -> u64
+fn value(op: Op, x: u64, y: u64) -> u64
     requires { ⌜ Shifts op ⌝ }
     ensures { λ r. ⌜ r ≡ valueOf op x y ⌝ }
 {

@@ -50,7 +50,7 @@ use Rattle.plans.specs.TruncatePlan.{truncatePlan}
 use Rattle.plans.specs.NearestPlan.{nearestPlan}
 use Rattle.plans.specs.Computes.{Computes}
 use Rattle.execution.specs.Shares.{callAnswer, placed, placedOver, resultAfter, resultShares}
-use Rattle.operations.specs.Masked.{StepSecret, OnShares}
+use Rattle.operations.specs.Masked.{Operand, StepSecret, OnShares}
 use Rattle.execution.specs.WholeRun.{WholeRun}
 use Rattle.splitting.specs.SplitJoin.{xorAll, splitOf, splitAnswer, splitOut, joinedWord}
 use Rattle.listing.specs.Sharelist.{listing}
@@ -85,6 +85,10 @@ module _ {plan : List ℕ} {op : ℕ → ℕ → ℕ} (O : OnShares plan op) whe
 
   steps : (n : ℕ) → 2 ≤ n → n ≤ 8 → (s : ℕ) → s < length (program n plan) → StepSecret plan n s
   steps = O .secret
+
+  from-anywhere : {n s : ℕ} (S : StepSecret plan n s) (x y x′ y′ cells cells′ : List ℕ) → Operand n x → Operand n y → Operand n x′ → Operand n y′ → Start cells → Start cells′
+      → getD x (S .share) 0 ≡ getD x′ (S .share) 0 → getD y (S .share) 0 ≡ getD y′ (S .share) 0 → Hidden n plan s (placedOver x y cells) (placedOver x′ y′ cells′)
+  from-anywhere S = S .hidden
 
   anywhere : (n : ℕ) → 2 ≤ n → n ≤ 8 → (x y cells tape : List ℕ) → length x ≡ n → length y ≡ n → ((k : ℕ) → getD x k 0 < 2 ^ 64) → ((k : ℕ) → getD y k 0 < 2 ^ 64)
       → length cells ≡ 512 → (s : ℕ) → s < length (program n plan) → stepWord n plan s tape (placedOver x y cells) ≡ stepWord n plan s tape (placed x y)

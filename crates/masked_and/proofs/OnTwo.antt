@@ -2,10 +2,11 @@
 -- which the wiping forgets. Rests on Stores, on conjunction's Parts, and on gadgets' ShareTurns and RowTurns.
 use mathlib.Core.Path.{_≡_, refl, sym, ap, ap₂, _∙_, subst}
 use mathlib.Core.List.{List}
+use mathlib.Core.Logic.{_≢_}
 use Prim.Native.Nat.{ℕ, _+_, _^_, _<_}
 use native.Mathlib.Omega.{arith}
 use lib.ListN.{length, getD, set}
-use lib.Seq.{getD-set-other}
+use lib.Seq.{getD-set-other, set-comm}
 use Rattle.bits.specs.Ops.{xorW, andW}
 use Rattle.bits.proofs.Bound.{xor-lt, and-lt}
 use Rattle.word.specs.declared.step.Step.the-variants.{And, Shl}
@@ -32,12 +33,13 @@ module _ (c : List ℕ) (d x : ℕ) (od : Other d) (ox : Other x) (v : ℕ) (ev 
 -- what the code does before it wipes, over the cells of the shares of b, a and d
 abbrev pub twoShares : List ℕ → ℕ → ℕ → ℕ → ℕ → ℕ → ℕ → ℕ → ℕ → List ℕ
 twoShares c r r' b₀ b₁ a₀ a₁ d₀ d₁ =
-    let y₀ = xorW (getD c b₀ 0) r in
-    let y₁ = xorW (getD c b₁ 0) r in
-    let s = xorW r' (andW (getD c a₀ 0) y₁) in
-    let x = getD (set c 272 s) a₁ 0 in
+    let k = set c 256 r in
+    let y₁ = xorW (getD k b₁ 0) r in
+    let y₀ = xorW (getD k b₀ 0) r in
+    let s = xorW r' (andW (getD k a₀ 0) y₁) in
+    let x = getD (set k 272 s) a₁ 0 in
     let w = xorW s (andW x y₀) in
-    set (set (set (set c 272 s) 272 w) d₀ (xorW (andW (getD c a₀ 0) y₀) r')) d₁ (xorW (andW x y₁) w)
+    set (set (set (set k 272 s) 272 w) d₁ (xorW (andW x y₁) w)) d₀ (xorW (andW (getD k a₀ 0) y₀) r')
 
 module _ (A B D : Place) (RA : Register A) (RB : Register B) (RD : Register D) (tape c : List ℕ) (t : ℕ) (size : length c ≡ 512) (words : (k : ℕ) → getD c k 0 < 2 ^ 64) (fits : (k : ℕ) → getD tape k 0 < 2 ^ 64) where
   other : (P : Place) → Register P → (i : ℕ) → i < 8 → Other (at P i)
@@ -156,18 +158,34 @@ module _ (A B D : Place) (RA : Register A) (RB : Register B) (RD : Register D) (
       stays ks (at D 1) v₁ (set (stored ws c) (at D 0) v₀) (away 1 (omega arith))
       ∙ ap (λ (l : List ℕ). set l (at D 1) v₁) (stays ks (at D 0) v₀ (stored ws c) (away 0 (omega arith)) ∙ ap (λ (l : List ℕ). set l (at D 0) v₀) (forgets ks ws c m))
 
-  -- t's two values
+  -- what is in y_0, and t's two values
+  abbrev inY : Stores
+  inY = put 256 r none
+
   abbrev inT : Stores
-  inT = put 272 w (put 272 (xorW r' (andW a₀ y₁)) none)
+  inT = put 272 w (put 272 (xorW r' (andW a₀ y₁)) inY)
+
+  abbrev byLoads : ℕ → ℕ → ℕ → ℕ → List ℕ
+  byLoads u v x z =
+      let s = xorW r' (andW x (xorW v r)) in
+      let m = xorW s (andW z (xorW u r)) in
+      set (set (set (set (stored inY c) 272 s) 272 m) (at D 1) (xorW (andW z (xorW v r)) m)) (at D 0) (xorW (andW x (xorW u r)) r')
+
+  kept : (P : Place) → Register P → (i : ℕ) → i < 8 → getD (stored inY c) (at P i) 0 ≡ getD c (at P i) 0
+  kept P R i h = getD-set-other c 256 (at P i) r 0 (R .away i 256 h (omega arith) (omega arith))
+
+  distinct : at D 1 ≢ at D 0
+  distinct e = omega (arith, RD .spread)
 
   code-kept : twoShares c r r' (at B 0) (at B 1) (at A 0) (at A 1) (at D 0) (at D 1) ≡ set (set (stored inT c) (at D 0) v₀) (at D 1) v₁
   code-kept =
-      let s = xorW r' (andW a₀ y₁) in
-      ap (λ (x : ℕ). set (set (set (set c 272 s) 272 (xorW s (andW x y₀))) (at D 0) v₀) (at D 1) (xorW (andW x y₁) (xorW s (andW x y₀))))
-      (getD-set-other c 272 (at A 1) s 0 (RA .away 1 272 (omega arith) (omega arith) (omega arith)))
+      let s = xorW r' (andW (getD (stored inY c) (at A 0) 0) (xorW (getD (stored inY c) (at B 1) 0) r)) in
+      let last : getD (set (stored inY c) 272 s) (at A 1) 0 ≡ a₁ = getD-set-other (stored inY c) 272 (at A 1) s 0 (RA .away 1 272 (omega arith) (omega arith) (omega arith)) ∙ kept A RA 1 (omega arith) in
+      (λ i. byLoads (kept B RB 0 (omega arith) i) (kept B RB 1 (omega arith) i) (kept A RA 0 (omega arith) i) (last i))
+      ∙ set-comm (stored inT c) (at D 1) (at D 0) v₁ v₀ distinct
 
   same-zeros : zeroed ks (twoShares c r r' (at B 0) (at B 1) (at A 0) (at A 1) (at D 0) (at D 1)) ≡ zeroed ks after
-  same-zeros = ap (zeroed ks) code-kept ∙ stays-out inT (tt, (tt, tt)) ∙ sym (stays-out afterCross (tt, (tt, (tt, (tt, (tt, (tt, (tt, (tt, tt)))))))))
+  same-zeros = ap (zeroed ks) code-kept ∙ stays-out inT (tt, (tt, (tt, tt))) ∙ sym (stays-out afterCross (tt, (tt, (tt, (tt, (tt, (tt, (tt, (tt, tt)))))))))
 
   -- over the cells' numbers as the code has them
   pub two-done : (b₀' b₁' a₀' a₁' d₀' d₁' : ℕ) → b₀' ≡ at B 0 → b₁' ≡ at B 1 → a₀' ≡ at A 0 → a₁' ≡ at A 1 → d₀' ≡ at D 0 → d₁' ≡ at D 1

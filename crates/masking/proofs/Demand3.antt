@@ -21,7 +21,7 @@ use Rattle.masking.proofs.joined.Cells.{drop-words}
 use Rattle.masking.proofs.joined.Plan.{joined-after}
 use Rattle.masking.proofs.joined.Wiped.{wiped-after}
 use Rattle.masking.proofs.InARow.{Reached, each-run, all-reached, place-sum, tape-sum, rands-take, due-rands, done-answer}
-use Rattle.masking.proofs.secret.SecretRuns.{secret}
+use Rattle.masking.proofs.secret.SecretRuns.{After, secret}
 
 -- the words that translate a plan's first k words are the program's first
 first-words : (n : ℕ) (plan : List ℕ) (k m : ℕ) → m ≡ length (program n (take k plan)) → take m (program n plan) ≡ program n (take k plan)
@@ -93,10 +93,14 @@ module _ (n : ℕ) (plan : List ℕ) (A : Accepted n plan) (start tape : List �
         enough = λ h before rest b e. enough h before b;
       }
 
+-- what a list of runs leaves in the cells
+pub runs-after : (n : ℕ) (plan : List ℕ) → Accepted n plan → After n plan
+runs-after n plan A start tape S p₀ inside budgets = cells-are n plan A start tape S p₀ inside budgets
+
 -- THE THEOREM
 pub demand3 : Demand3Holds
 demand3 n plan A =
     record {
       runs = λ start tape S W p₀ inside budgets. in-a-row n plan A start tape S p₀ inside W budgets;
-      secret = secret n plan A (λ start tape S p₀ inside budgets. cells-are n plan A start tape S p₀ inside budgets);
+      secret = secret n plan A (runs-after n plan A);
     }

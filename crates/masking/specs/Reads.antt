@@ -1,6 +1,6 @@
--- What a plan reads and what its shares depend on, which document 01 leaves free ("Its words are the team's choice"): a test that no register is
--- read but those known at the start and those written before, and the statement that such a plan's results, and the words of its share program's
--- steps, go by the known registers and the tape alone, whatever all other cells hold at the start.
+-- What a plan reads and what its shares depend on, for "Work starts as zeros with operands placed": a test that no register is read but those known
+-- at the start and those written before, and the statement that such a plan's results, and the words of its share program's steps, go by the known
+-- registers and the tape alone. So an operation's code need not write the zeros.
 use mathlib.Core.Path.{_≡_}
 use mathlib.Core.Bool.{Bool, true, false, _&&_, _||_}
 use mathlib.Core.List.{List, [], _∷_}

@@ -31,7 +31,7 @@ on-shares plan op C start =
       run = runs-whole plan (good C);
       joins = plan-joins plan op C;
       call = call-joins plan op (plan-joins plan op C);
-      secret = operation-secret plan op C;
+      secret = operation-secret plan op C start;
       start = start;
     }
 

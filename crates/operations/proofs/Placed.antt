@@ -1,4 +1,4 @@
--- The work slice at the start: operands of at most eight words in registers 0 and 1, all else 0. Rests on plain's Laws (stores keep words), masking's Sums and execution's Filling.
+-- The work slice at the start: operands of at most eight words in registers 0 and 1, over any cells and over zeros. Rests on plain's Laws (stores keep words), masking's Sums and execution's Filling.
 use mathlib.Core.Path.{_≡_, refl, sym, ap, ap₂, _∙_}
 use mathlib.Core.List.{List, [], _∷_}
 use Prim.Native.Nat.{ℕ, zero, suc, _+_, _≤_, _<_}
@@ -17,7 +17,7 @@ use Rattle.masking.specs.Secrecy.{Agree}
 use Rattle.plain.proofs.Laws.{set-words}
 use Rattle.masking.proofs.joined.Sums.{sum-same}
 use Rattle.execution.proofs.Filling.{placed-size, placed-other, placed-share}
-use Rattle.execution.specs.Shares.{placedIn, placed}
+use Rattle.execution.specs.Shares.{placedIn, placed, placedOver}
 use Rattle.splitting.specs.SplitJoin.{xorAll}
 
 -- ---- exclusive-ors of n words
@@ -36,6 +36,14 @@ all-shares n x l = shares-from x 0 n (λ i. getD x i 0) l (λ j. ap (λ (k : ℕ
 in-words : (r i : ℕ) (x cells : List ℕ) → Words x → Words cells → Words (placedIn r i x cells)
 in-words r i [] cells wx w = w
 in-words r i (v ∷ x) cells wx w = in-words r (suc i) x (set cells (cell i r) v) (λ k. wx (suc k)) (set-words cells (cell i r) v w (wx 0))
+
+-- operands placed over a start make one
+pub over-start : (x y : List ℕ) → Words x → Words y → (cells : List ℕ) → Start cells → Start (placedOver x y cells)
+over-start x y wx wy cells S =
+    record {
+      size = placed-size 1 0 y (placedIn 0 0 x cells) ∙ placed-size 0 0 x cells ∙ S .size;
+      words = in-words 1 0 y (placedIn 0 0 x cells) wy (in-words 0 0 x cells wx (S .words));
+    }
 
 -- share i + j of cells that are 0 there: past the operand's end both are 0
 in-share : (r i : ℕ) (x cells : List ℕ) (j : ℕ) → r < 32 → i + length x ≤ 8 → length cells ≡ 512 → getD cells (cell (i + j) r) 0 ≡ 0
@@ -56,6 +64,9 @@ zero-at k = by (decLt k 512)
     by : Dec (k < 512) → getD zeros k 0 ≡ 0
     by (yes h) = getD-replicate 512 k 0 0 h
     by (no h) = List·getD-eq-default zeros 0 {n = k} (omega arith)
+
+pub zeros-start : Start zeros
+zeros-start = record { size = refl; words = λ k. rw (zero-at k) (pow-pos 64) }
 
 module _ (x y : List ℕ) (fewX : length x ≤ 8) (fewY : length y ≤ 8) where
   abbrev withX : List ℕ
@@ -84,11 +95,7 @@ module _ (x y : List ℕ) (fewX : length x ≤ 8) (fewY : length y ≤ 8) where
 
   pub placed-start : Words x → Words y → Start (placed x y)
   unfolding placed
-  placed-start wx wy =
-      record {
-        size = placed-size 1 0 y withX ∙ withX-size;
-        words = in-words 1 0 y withX wy (in-words 0 0 x zeros wx (λ k. rw (zero-at k) (pow-pos 64)));
-      }
+  placed-start wx wy = over-start x y wx wy zeros zeros-start
 
   -- ---- joined
   pub joins-0 : (n : ℕ) → length x ≤ n → joined n (placed x y) 0 ≡ xorAll x

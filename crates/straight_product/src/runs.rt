@@ -21,35 +21,35 @@ fn on_share(k: usize, i: usize, cells: &mut [u64])
     match k {
         0 => {
             eight(
+                0x10280001,
+                0x40100000,
                 0x102C0001,
                 0x50441634,
-                0x500C000C,
-                0x600C060C,
-                0x200C0611,
-                0x40100000,
+                0x40180200,
                 0x5010080C,
                 0x6010080C,
+                0x50140800,
                 i,
                 cells,
             );
-            four(0x40180200, 0x50180C0C, 0x60180C0C, 0x50140800, i, cells);
-            two(0x10280001, 0x20200A06, i, cells);
-            linear(0x20240A0A, i, cells);
+            four(0x50180C0C, 0x20240A0A, 0x60180C0C, 0x500C000C, i, cells);
+            two(0x20200A06, 0x600C060C, i, cells);
+            linear(0x200C0611, i, cells);
         }
         1 => {
             eight(
                 0x20180A09,
                 0x2014100A,
-                0x50180C01,
-                0x101C0000,
                 0x60280200,
                 0x70281400,
+                0x101C0000,
                 0x6028140A,
                 0x20281404,
+                0x20240A0A,
                 i,
                 cells,
             );
-            two(0x20200A06, 0x20240A0A, i, cells);
+            two(0x50180C01, 0x20200A06, i, cells);
         }
         53 => {
             eight(
@@ -68,25 +68,25 @@ fn on_share(k: usize, i: usize, cells: &mut [u64])
         54 => {
             sixteen(
                 0x20180A09,
+                0x5028000C,
                 0x20141003,
                 0x601C0E01,
                 0x50240A3F,
+                0x6028140C,
                 0x201C0E09,
-                0x60140A01,
                 0x50440001,
+                0x60140A01,
                 0x60442235,
                 0x50442235,
                 0x20140A11,
+                0x20240A0A,
                 0x50440201,
                 0x60442235,
                 0x50442235,
-                0x20180C11,
-                0x5028000C,
-                0x6028140C,
                 i,
                 cells,
             );
-            two(0x20200A06, 0x20240A0A, i, cells);
+            two(0x20180C11, 0x20200A06, i, cells);
         }
         55 => {
             four(0x20180A09, 0x2014100A, 0x601C0E01, 0x50240A3F, i, cells);
@@ -110,11 +110,11 @@ fn on_share(k: usize, i: usize, cells: &mut [u64])
         57 => {
             eight(
                 0x20341A08,
-                0x50381A35,
-                0x60381C35,
                 0x60441A0C,
                 0x5044223F,
+                0x50381A35,
                 0x60442234,
+                0x60381C35,
                 0x20381C11,
                 0x50440E0C,
                 i,
@@ -201,9 +201,9 @@ fn on_share(k: usize, i: usize, cells: &mut [u64])
         _ => {
             four(0x20180A09, 0x2014100A, 0x601C0E01, 0x50240A3F, i, cells);
             two(0x201C0E09, 0x60140A01, i, cells);
+            linear(0x20200A06, i, cells);
             shifted(0x60280200, (k - 1) as u32, i, cells);
-            four(0x70281400, 0x6028140A, 0x20281404, 0x20200A06, i, cells);
-            linear(0x20240A0A, i, cells);
+            four(0x70281400, 0x6028140A, 0x20281404, 0x20240A0A, i, cells);
         }
     }
 }

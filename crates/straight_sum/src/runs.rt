@@ -146,18 +146,18 @@ fn on_share(k: usize, i: usize, cells: &mut [u64])
         16 => {
             eight(
                 0x60301C20,
+                0x40341C00,
+                0x50141A3F,
+                0x60341A20,
+                0x50341A3F,
+                0x60341A3F,
                 0x2030180E,
                 0x60301810,
-                0x70301800,
-                0x50301801,
-                0x40341C00,
-                0x50401201,
-                0x50141A3F,
                 i,
                 cells,
             );
-            four(0x60140A3F, 0x20402005, 0x60341A20, 0x50341A3F, i, cells);
-            two(0x60341A3F, 0x2030180D, i, cells);
+            four(0x50401201, 0x60140A3F, 0x20402005, 0x70301800, i, cells);
+            two(0x50301801, 0x2030180D, i, cells);
         }
         17 => {
             two(0x6034063F, 0x70341A00, i, cells);

@@ -30,7 +30,7 @@ module _ (n : ℕ) (plan : List ℕ) (A : Accepted n plan) (after : After n plan
       (after l (before ++ tape) st (length before) (omega (arith, length-append before tape)) budgets
       ∙ ap₂ (λ (m : ℕ) (ts : List ℕ). exec (take m (program n plan)) ts l) e (drop-at before tape (length before) refl))
 
-  hidden : (s : ℕ) (l l′ : List ℕ) → Start l → Start l′ → StepHidden n plan s l l′ → Hidden n plan s l l′
+  pub hidden : (s : ℕ) (l l′ : List ℕ) → Start l → Start l′ → StepHidden n plan s l l′ → Hidden n plan s l l′
   hidden s l l′ st st′ h =
       record {
         pairing = h .pairing;

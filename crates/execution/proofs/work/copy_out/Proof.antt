@@ -1,9 +1,10 @@
 -- `execution::work::copy_out` meets its contract.
-use mathlib.Core.Path.{_≡_, refl, _∙_}
-use Prim.Native.Nat.{ℕ, _-_, _≤_}
+use mathlib.Core.Path.{_≡_, refl, sym, _∙_, subst}
+use Prim.Native.Nat.{ℕ, _+_, _-_, _≤_}
 use native.Mathlib.Omega.{arith}
 use denote.Ref.{now}
 use lib.ListN.{length, getD, length-set}
+use lib.Seq.{set-set}
 use Rattle.word.specs.Layout.{cell}
 use Rattle.execution.proofs.Filling.{Filled, none-filled, one-filled, all-filled}
 use Rattle.execution.proofs.work.copy_out.Statement.{statement}
@@ -18,25 +19,13 @@ abbrev μ-loop : tie.MeasureT-loop
 loop-holds : tie.Need-loop-holds Inv-loop μ-loop
 loop-holds c = (omega arith, refl, none-filled (λ k. getD (now (c .args .cells)) (cell k 2) 0) (now (c .args .result)))
 
-mul-result : tie.Need-mul-result Inv-loop μ-loop
-mul-result c = omega (arith, c .before .before .pre .0)
-
-add-result : tie.Need-add-result Inv-loop μ-loop
-add-result c = omega (arith, c .before .before .pre .0)
-
-mul-result-2 : tie.Need-mul-result-2 Inv-loop μ-loop
-mul-result-2 c = omega (arith, c .before .before .pre .0)
-
-shared-slice-read-result : tie.Need-shared-slice-read-result Inv-loop μ-loop
-shared-slice-read-result c = omega (arith, c .before .before .before .pre .0, c .before .before .before .pre .1)
-
-mul-result-3 : tie.Need-mul-result-3 Inv-loop μ-loop
-mul-result-3 c = omega (arith, c .before .before .before .pre .0)
-
 loop-again : tie.Need-loop-again Inv-loop μ-loop
 loop-again c =
-    let F : ℕ → ℕ = λ k. getD (now (c .before .before .before .args .cells)) (cell k 2) 0 in
-    (omega arith, length-set (c .before .before .loop .result) (c .before .before .loop .i) _ ∙ c .before .before .loop .inv .1, one-filled F (c .before .before .loop .i) _ (c .before .before .loop .result) (c .before .before .loop .inv .2) (omega arith) refl)
+    let l = c .before .before .before .loop in
+    let cells = now (c .before .before .before .before .args .cells) in
+    let F : ℕ → ℕ = λ k. getD cells (cell k 2) 0 in
+    let once = set-set (l .result) (l .i) (getD cells 272 0) (F (l .i)) in
+    (omega arith, simp length-set (l .inv .1), subst (Filled F (l .i + 1)) (sym once) (one-filled F (l .i) _ (l .result) (l .inv .2) (omega arith) refl))
 
 same-length : tie.Need-same-length Inv-loop μ-loop
 same-length c = c .before .loop .inv .1
@@ -51,12 +40,15 @@ copy-out-spec =
     Inv-loop
     μ-loop
     loop-holds
-    mul-result
-    add-result
-    mul-result-2
-    shared-slice-read-result
-    mul-result-3
     (λ c. omega arith)
+    (λ c. omega arith)
+    (λ c. omega arith)
+    (λ c. omega arith)
+    (λ c. omega arith)
+    (λ c. omega arith)
+    (λ c. omega arith)
+    (λ c. omega arith)
+    (λ c. simp length-set (omega arith))
     (λ c. omega arith)
     (λ c. omega arith)
     loop-again

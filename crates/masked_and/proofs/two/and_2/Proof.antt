@@ -13,29 +13,35 @@ use Rattle.masked_and.proofs.OnTwo.{two-done}
 use Rattle.masked_and.proofs.two.and_2.Statement.{statement}
 use Rattle.masked_and.proofs.two.and_2.Tie as tie
 
-shared-slice-read-y0 : tie.Need-shared-slice-read-y0
-shared-slice-read-y0 c = omega (arith, two-words (at (c .before .before .before .before .args .d)) (at (placed (c .before .before .before .before .args .a) (c .before .before .before .before .args .over))) (at (placed (c .before .before .before .before .args .b) (c .before .before .before .before .args .over))) (now (c .before .before .before .before .args .tape)) (c .before .before .before .before .args .t) (c .before .before .before .before .pre .1))
+shared-slice-read-r : tie.Need-shared-slice-read-r
+shared-slice-read-r c = let s = c .before .before .before in omega (arith, two-words (at (s .args .d)) (at (placed (s .args .a) (s .args .over))) (at (placed (s .args .b) (s .args .over))) (now (s .args .tape)) (s .args .t) (s .pre .1))
+
+slice-read-y1 : tie.Need-slice-read-y1
+slice-read-y1 c = simp length-set (omega (arith, c .before .before .before .before .pre .0 .3 .inside))
 
 shared-slice-read-y1 : tie.Need-shared-slice-read-y1
-shared-slice-read-y1 c = omega (arith, two-words (at (c .before .before .before .before .before .before .args .d)) (at (placed (c .before .before .before .before .before .before .args .a) (c .before .before .before .before .before .before .args .over))) (at (placed (c .before .before .before .before .before .before .args .b) (c .before .before .before .before .before .before .args .over))) (now (c .before .before .before .before .before .before .args .tape)) (c .before .before .before .before .before .before .args .t) (c .before .before .before .before .before .before .pre .1))
+shared-slice-read-y1 c = let s = c .before .before .before .before .before in omega (arith, two-words (at (s .args .d)) (at (placed (s .args .a) (s .args .over))) (at (placed (s .args .b) (s .args .over))) (now (s .args .tape)) (s .args .t) (s .pre .1))
+
+slice-read-y0 : tie.Need-slice-read-y0
+slice-read-y0 c = simp length-set (omega (arith, c .before .before .before .before .before .before .pre .0 .3 .inside))
+
+slice-read-a0 : tie.Need-slice-read-a0
+slice-read-a0 c = simp length-set (omega (arith, c .before .before .before .before .before .before .before .pre .0 .2 .inside))
 
 shared-slice-read-s : tie.Need-shared-slice-read-s
-shared-slice-read-s c = omega (arith, two-words (at (c .before .before .before .before .before .before .before .before .args .d)) (at (placed (c .before .before .before .before .before .before .before .before .args .a) (c .before .before .before .before .before .before .before .before .args .over))) (at (placed (c .before .before .before .before .before .before .before .before .args .b) (c .before .before .before .before .before .before .before .before .args .over))) (now (c .before .before .before .before .before .before .before .before .args .tape)) (c .before .before .before .before .before .before .before .before .args .t) (c .before .before .before .before .before .before .before .before .pre .1))
+shared-slice-read-s c = let s = c .before .before .before .before .before .before .before .before in omega (arith, two-words (at (s .args .d)) (at (placed (s .args .a) (s .args .over))) (at (placed (s .args .b) (s .args .over))) (now (s .args .tape)) (s .args .t) (s .pre .1))
 
 slice-read-a1 : tie.Need-slice-read-a1
 slice-read-a1 c = simp length-set (omega (arith, c .before .before .before .before .before .before .before .before .before .pre .0 .2 .inside))
 
-slice-write-cells-2 : tie.Need-slice-write-cells-2
-slice-write-cells-2 c = simp length-set (omega arith)
+slice-write-cells-4 : tie.Need-slice-write-cells-4
+slice-write-cells-4 c = simp length-set (omega (arith, c .before .before .before .before .before .before .before .before .before .before .pre .0 .1 .inside))
 
 shared-slice-read-cells : tie.Need-shared-slice-read-cells
-shared-slice-read-cells c = omega (arith, two-words (at (c .before .before .before .before .before .before .before .before .before .before .before .args .d)) (at (placed (c .before .before .before .before .before .before .before .before .before .before .before .args .a) (c .before .before .before .before .before .before .before .before .before .before .before .args .over))) (at (placed (c .before .before .before .before .before .before .before .before .before .before .before .args .b) (c .before .before .before .before .before .before .before .before .before .before .before .args .over))) (now (c .before .before .before .before .before .before .before .before .before .before .before .args .tape)) (c .before .before .before .before .before .before .before .before .before .before .before .args .t) (c .before .before .before .before .before .before .before .before .before .before .before .pre .1))
+shared-slice-read-cells c = let s = c .before .before .before .before .before .before .before .before .before .before .before in omega (arith, two-words (at (s .args .d)) (at (placed (s .args .a) (s .args .over))) (at (placed (s .args .b) (s .args .over))) (now (s .args .tape)) (s .args .t) (s .pre .1))
 
-slice-write-cells-3 : tie.Need-slice-write-cells-3
-slice-write-cells-3 c = simp length-set (omega (arith, c .before .before .before .before .before .before .before .before .before .before .before .pre .0 .1 .inside))
-
-slice-write-cells-4 : tie.Need-slice-write-cells-4
-slice-write-cells-4 c = simp length-set (omega (arith, c .before .before .before .before .before .before .before .before .before .before .before .pre .0 .1 .inside))
+slice-write-cells-5 : tie.Need-slice-write-cells-5
+slice-write-cells-5 c = simp length-set (omega (arith, c .before .before .before .before .before .before .before .before .before .before .before .pre .0 .1 .inside))
 
 wipe-requires : tie.Need-wipe-requires
 wipe-requires c κs = (omega arith, simp length-set (c .before .before .before .before .before .before .before .before .before .before .before .before .pre .0 .0))
@@ -64,16 +70,17 @@ and-2-spec =
     tie.close
     (tie.spec
     (λ c. search needs)
-    (λ c. search needs)
-    (λ c. search needs)
-    shared-slice-read-y0
+    shared-slice-read-r
     (λ c. search needs)
     (λ c. search needs)
     (λ c. search needs)
+    slice-read-y1
     (λ c. search needs)
     shared-slice-read-y1
     (λ c. search needs)
+    slice-read-y0
     (λ c. search needs)
+    slice-read-a0
     (λ c. search needs)
     (λ c. search needs)
     shared-slice-read-s
@@ -81,15 +88,15 @@ and-2-spec =
     (λ c. search needs)
     (λ c. search needs)
     slice-read-a1
-    slice-write-cells-2
     (λ c. search needs)
+    (λ c. search needs)
+    (λ c. search needs)
+    slice-write-cells-4
     (λ c. search needs)
     (λ c. search needs)
     shared-slice-read-cells
     (λ c. search needs)
-    slice-write-cells-3
-    (λ c. search needs)
-    slice-write-cells-4
+    slice-write-cells-5
     wipe-requires
     (λ c. search needs)
     same-length

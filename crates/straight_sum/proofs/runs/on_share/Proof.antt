@@ -1,6 +1,12 @@
 -- Written by tools/compile_plan.py: change the plan or the compiler, not this file.
 -- `straight_sum::runs::on_share` meets its contract, run by run.
+use mathlib.Core.Path.{ap}
+use mathlib.Core.List.{[], _∷_}
+use Prim.Native.Nat.{ℕ}
+use denote.Ref.{now}
+use lib.ListN.{getD}
 use borrow.Author.Needs.{needs}
+use Rattle.straight.proofs.Reorder.{in-order}
 use Rattle.straight.proofs.Rest.{past}
 use Rattle.straight_sum.specs.Runs.{lastRun, runs}
 use Rattle.straight_sum.proofs.runs.on_share.Statement.{statement}
@@ -55,7 +61,7 @@ returns-16 : tie.Need-returns-16
 returns-16 c = rw (c .before .before .before .before .match .keys16, c .before .before .linear13 .ensures)
 
 returns-17 : tie.Need-returns-17
-returns-17 c = rw (c .before .before .before .before .before .before .before .before .before .before .before .before .match .keys17, c .before .before .two6 .ensures, c .before .before .before .before .before .before .four8 .ensures, c .before .before .before .before .before .before .before .before .before .before .eight5 .ensures)
+returns-17 c = in-order (1613765664 ∷ 1077156864 ∷ 1343494719 ∷ 1614027296 ∷ 1345591871 ∷ 1614027327 ∷ 540022798 ∷ 1613764624 ∷ 1346376193 ∷ 1611926079 ∷ 541073413 ∷ 1882200064 ∷ 1345329153 ∷ 540022797 ∷ []) (getD runs 16 lastRun) (c .before .before .before .before .before .before .before .before .before .before .before .before .before .before .args .i) (now (c .before .before .before .before .before .before .before .before .before .before .before .before .before .before .args .cells)) (rw (c .before .before .two6 .ensures, c .before .before .before .before .before .before .four8 .ensures, c .before .before .before .before .before .before .before .before .before .before .eight5 .ensures)) (ap (λ (k : ℕ). getD runs k lastRun) (c .before .before .before .before .before .before .before .before .before .before .before .before .match .keys17)) tt
 
 returns-18 : tie.Need-returns-18
 returns-18 c = rw (c .before .before .before .before .before .before .before .before .match .keys18, c .before .before .linear14 .ensures, c .before .before .before .before .before .before .two7 .ensures)
