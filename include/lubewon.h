@@ -142,8 +142,9 @@ lubewon_answer lubewon_one_share_step(uint32_t word, const uint64_t *tape, size_
                                       size_t cells_len);
 
 /* Product, sum, floor, truncation and nearest on n shares, n the first operand's length: y and result have n words, work 512. What work holds at
- * the start does not matter; it is zeros when the call is done. Turn-downs 1, 4, 6. tape counts the tape words used, as the macros above have
- * them. The results join to what the plain operations below give for the joined operands. */
+ * the start changes neither result nor answer; it is zeros when the call is done. It is not cleared before shares are written there: where other
+ * code than these calls has left secret words in it, clear it first. Turn-downs 1, 4, 6. tape counts the tape words used, as the macros above
+ * have them. The results join to what the plain operations below give for the joined operands. */
 lubewon_answer lubewon_product_shares(const uint64_t *x, size_t x_len, const uint64_t *y, size_t y_len, uint64_t *result,
                                       size_t result_len, uint64_t *work, size_t work_len, const uint64_t *tape, size_t tape_len);
 lubewon_answer lubewon_sum_shares(const uint64_t *x, size_t x_len, const uint64_t *y, size_t y_len, uint64_t *result, size_t result_len,

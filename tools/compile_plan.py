@@ -40,7 +40,7 @@ def files_of(plan):
         files = {path: text.replace(f"@{name}@", part) for path, text in files.items()}
     for name in ("WRITTEN", "PLAN", "CRATE", "TITLE", "MODULE"):  # they stand in the parts too
         files = {path: text.replace(f"@{name}@", put_in[name]) for path, text in files.items()}
-    return files
+    return {path: text.replace("\n\n\n", "\n\n") for path, text in files.items()}  # where a part is empty
 
 
 def present(folder):

@@ -193,13 +193,13 @@ class Plan:
         put_in_order(name, self.arms, section.get("order", ""))
         self.rows = next((arm for arm in self.arms if arm.place is not None), None)
         self.units = sum(1 if word >> 28 == AND else 12 for word in self.gates)
-        self.same = next((k for k, word in enumerate(self.gates) if word != self.gates[0]), len(self.gates))
+        self.alike = next((k for k, word in enumerate(self.gates) if word != self.gates[0]), len(self.gates))  # gates at the start that are the same word
 
     def adds(self):
         return sum(word >> 28 == ADD for word in self.gates)
 
     def figures(self):
-        return f"{len(self.words)} words, {len(self.gates) - self.adds()} ANDs, {self.adds()} ADDs, {self.units} n(n-1) tape words"
+        return f"words {len(self.words)}, ANDs {len(self.gates) - self.adds()}, ADDs {self.adds()}, tape words {self.units} n(n-1)"
 
     def calls(self, arm):
         """the calls of an arm: a function's name and its words, or None for the word with the number"""

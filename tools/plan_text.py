@@ -55,7 +55,7 @@ def lists(plan):
         "ROW": row_lists(plan, runs),
         "RUN_LISTS": "first ++ (map row (upFrom %d %d) ++ after)" % (rows.number(), rows.last - rows.first + 1),
         "LAST_RUN": listed(plan.runs[-1]),
-        "GATE_LIST": "replicate %d %d ++ (%s)" % (plan.same, plan.gates[0], listed(plan.gates[plan.same:])),
+        "GATE_LIST": "replicate %d %d ++ (%s)" % (plan.alike, plan.gates[0], listed(plan.gates[plan.alike:])),
     }
 
 
@@ -84,7 +84,7 @@ after =
 def code(plan):
     used = sorted({name for arm in plan.arms for name, _ in plan.calls(arm)})
     arms = [line for arm in plan.ordered() for line in arm_lines(plan, arm)]
-    keyed = range(plan.same, len(plan.gates)) if plan.rows else range(len(plan.gates) - 1)
+    keyed = range(plan.alike, len(plan.gates)) if plan.rows else range(len(plan.gates) - 1)
     rest = plan.gates[0] if plan.rows else plan.gates[-1]
     gates = [f"        {k} => {hexed(plan.gates[k])}," for k in keyed] + [f"        _ => {hexed(rest)},"]
     return {"USES": "\n".join(f"use straight::linear::{name};" for name in used), "ARMS": "\n".join(arms), "GATE_ARMS": "\n".join(gates)}
@@ -196,8 +196,8 @@ def run_fact(plan, arm, number, count):
 
 def gate_proof(plan):
     if plan.rows:
-        keyed = len(plan.gates) - plan.same
-        law, last = "between, equal", f"equal _ _ {plan.same} _ (between 0 {plan.same} {keyed} _ (c .match .rest) (c .before .pre) .1)"
+        keyed = len(plan.gates) - plan.alike
+        law, last = "between, equal", f"equal _ _ {plan.alike} _ (between 0 {plan.alike} {keyed} _ (c .match .rest) (c .before .pre) .1)"
     else:
         keyed = len(plan.gates) - 1
         law, last = "only", f"only {keyed} _ (c .match .rest) (c .before .pre)"

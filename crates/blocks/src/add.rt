@@ -44,18 +44,19 @@ fn begun(k: u32, a: Place, b: Place, n: usize, tape: &[u64], t: usize, cells: &m
     and_of_helpers(s, a.base, b.base, n, tape, t, cells)
 }
 
-// G = G XOR T; T = P SHL k. Both for one share before the next: share i's helpers are the cells from q on.
+// G = G XOR T; T = P SHL k. Both for one share before the next: share i's helpers are the cells from q on. From the last share to the
+// first: the AND before leaves P's last share in a register.
 fn merged(k: u32, n: usize, cells: &mut [u64])
     requires { ⌜ (k < 64) × (n ≤ 8) × (length (now cells) ≡ 512) ⌝ }
     ensures { λ _. ⌜ Still (blocks scratch n (Xor rG rG rT ∷ Shl rT rP k ∷ [])) (now (cells .entry)) (now (cells .exit)) ⌝ }
 {
-    let mut q = H;
-    let mut i = 0;
-    while i < n {
+    let mut q = H + n * STRIDE;
+    let mut i = n;
+    while i > 0 {
+        q -= STRIDE;
+        i -= 1;
         cells[q + 1] = cells[q + 1] ^ cells[q + 3];
         cells[q + 3] = cells[q + 2] << k;
-        q += STRIDE;
-        i += 1;
     }
 }
 

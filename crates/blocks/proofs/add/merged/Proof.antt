@@ -1,6 +1,6 @@
--- `blocks::add::merged` meets its contract. Rests on InTurn for what is left before a share.
+-- `blocks::add::merged` meets its contract. Rests on InTurn for what is left after a share.
 use mathlib.Core.Path.{_≡_, sym, _∙_}
-use Prim.Native.Nat.{_+_, _-_, _*_, _≤_}
+use Prim.Native.Nat.{_+_, _*_, _≤_}
 use native.Mathlib.Omega.{arith}
 use denote.Ref.{now}
 use lib.ListN.{length, length-set}
@@ -13,7 +13,7 @@ abbrev Inv-loop : tie.InvT-loop
 Inv-loop k n cells₀ q₀ i₀ cells q i = (i ≤ n) × (length cells ≡ 512) × (q ≡ 288 + 8 * i) × Rest k n i cells₀ cells
 
 abbrev μ-loop : tie.MeasureT-loop
-μ-loop k n cells₀ q₀ i₀ cells q i = n - i
+μ-loop k n cells₀ q₀ i₀ cells q i = i
 
 slice-read-cells-3 : tie.Need-slice-read-cells-3 Inv-loop μ-loop
 slice-read-cells-3 c = simp length-set (omega arith)
@@ -35,7 +35,11 @@ merged-spec =
     (tie.spec
     Inv-loop
     μ-loop
+    (λ c. omega arith)
+    (λ c. omega arith)
     (λ c. (omega arith, c .pre .2, omega arith, begin (c .args .k) (c .args .n) (now (c .args .cells))))
+    (λ c. omega arith)
+    (λ c. omega arith)
     (λ c. omega arith)
     (λ c. omega arith)
     (λ c. omega arith)
@@ -52,8 +56,6 @@ merged-spec =
     (λ c. omega arith)
     (λ c. omega arith)
     slice-write-cells-2
-    (λ c. omega arith)
-    (λ c. omega arith)
     (λ c. omega arith)
     loop-again
     (λ c. c .before .loop .inv .1 ∙ sym (c .before .before .pre .2))
