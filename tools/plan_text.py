@@ -195,13 +195,15 @@ def run_fact(plan, arm, number, count):
 
 
 def gate_proof(plan):
-    if plan.rows:
-        keyed = len(plan.gates) - plan.alike
-        law, last = "between, equal", f"equal _ _ {plan.alike} _ (between 0 {plan.alike} {keyed} _ (c .match .rest) (c .before .pre) .1)"
+    keyed = len(plan.gates) - (plan.alike if plan.rows else 1)
+    rest, below = ("(c .match .rest)", "(c .before .pre)") if keyed else ("tt", "(c .pre)")  # without a key there is no match
+    if not plan.rows:
+        law, last = "only", f"only {keyed} _ {rest} {below}"
+    elif keyed:
+        law, last = "between, equal", f"equal _ _ {plan.alike} _ (between 0 {plan.alike} {keyed} _ {rest} {below} .1)"
     else:
-        keyed = len(plan.gates) - 1
-        law, last = "only", f"only {keyed} _ (c .match .rest) (c .before .pre)"
-    return {"GATE_USES": f"use borrow.Author.Needs.{{needs}}\nuse Rattle.straight.proofs.Rest.{{{law}}}",
+        law, last = "equal", f"equal _ _ {plan.alike} _ {below}"
+    return {"GATE_USES": f"use borrow.Author.Needs.{{needs}}\nuse Rattle.straight.proofs.Rest.{{{law}}}" if keyed else f"use Rattle.straight.proofs.Rest.{{{law}}}",
             "GATE_ENDS": wrapped([SEARCH] * keyed + [f"(λ c. rw ({last}))"])}
 
 
