@@ -103,14 +103,15 @@ def number_place(runs, k):
 
 class Arm:
     """Runs first to last by one text; `place` is the word that has the number, None for a single run; `order` has the places of the words in the order in
-    which the code does them, None for the plan's."""
+    which the code does them, None for the plan's, and whether their operands are exchanged."""
 
     def __init__(self, first, last, place, words):
         self.first, self.last, self.place, self.words, self.order = first, last, place, words, None
 
     def done(self):
         """the words in the code's order, None for the one that has the number"""
-        return [None if j == self.place else self.words[j] for j in self.order or range(len(self.words))]
+        order = self.order or [(j, False) for j in range(len(self.words))]
+        return [None if j == self.place else exchange(self.words[j]) if other else self.words[j] for j, other in order]
 
     def base(self):
         return self.words[self.place] & ~511
@@ -159,18 +160,26 @@ def may_pass(word, earlier):
     return d != e and d not in read_before and e not in read
 
 
+def exchange(word):
+    """an XOR with its operands exchanged"""
+    return word >> 18 << 18 | (word & 511) << 9 | word >> 9 & 511
+
+
 def put_in_order(name, arms, text):
-    """the orders that a section gives, a line RUN: PLACES for each, into their arms"""
+    """the orders that a section gives, a line RUN: PLACES for each, into their arms; a place with ' behind it is an XOR whose operands are exchanged"""
     for line in text.strip().splitlines():
         run, _, places = line.partition(":")
         arm = next((arm for arm in arms if str(arm.first) == run.strip()), None)
-        order = [int(place) for place in places.split() if place.isdigit()]
-        if arm is None or sorted(order) != list(range(len(arm.words))):
+        found = [re.fullmatch(r"(\d+)('?)", place) for place in places.split()]
+        order = [int(place[1]) for place in found if place]
+        if arm is None or not all(found) or sorted(order) != list(range(len(arm.words))):
             refuse(f"{name}: order {line!r} does not name a run and the places of its words")
+        if any(place[2] and arm.words[int(place[1])] >> 28 != XOR for place in found):
+            refuse(f"{name}: order {line!r} exchanges the operands of a word that is no XOR")
         passed = [(j, i) for at, j in enumerate(order) for i in order[at + 1:] if i < j and not may_pass(arm.words[j], arm.words[i])]
         if passed:
             refuse(f"{name}: in run {arm.first} word {passed[0][0]} may not be done before word {passed[0][1]}")
-        arm.order = order
+        arm.order = [(j, bool(place[2])) for j, place in zip(order, found)]
 
 
 class Plan:

@@ -1,15 +1,18 @@
--- Linear words on one share in another order: a word may go before those that neither read nor set what it sets, and of which it reads nothing. Assumes nothing.
-use mathlib.Core.Path.{_≡_, refl, sym, ap, ap₂, _∙_}
+-- Linear words on one share in another order: a word may go before those that neither read nor set what it sets, and of which it reads nothing, and the
+-- operands of an XOR may change places. Rests on bits' Xor.
+use mathlib.Core.Path.{_≡_, refl, sym, ap, ap₂, _∙_, subst}
 use mathlib.Core.Bool.{Bool, true, false, cond, not, _&&_, _||_}
 use mathlib.Core.List.{List, [], _∷_}
 use Prim.Native.Nat.{ℕ, zero, suc, _+_, _*_, _/_, _%_, _^_, _<_}
 use native.Mathlib.Omega.{arith}
-use lib.Dec.{T, eqb}
+use lib.Dec.{T, eqb, eqb→eq}
 use lib.ListN.{getD, set}
 use lib.Seq.{getD-set-other, set-comm}
 use borrow.Author.Tests.{eqb-true, eqb-false}
+use Rattle.bits.proofs.Xor.{xor-comm}
 use Rattle.word.specs.Encoding.{kindOf}
 use Rattle.word.proofs.Ranges.{both}
+use Rattle.masking.proofs.emitted.Tests.{or-elim}
 use Rattle.straight.specs.OnShare.{linearWord, onShare, onShareAll}
 
 -- the register that a word sets
@@ -23,14 +26,22 @@ spares w r = (eqb (kindOf w) 1 || not (eqb (w / 2 ^ 9 % 32) r)) && (not (eqb (ki
 abbrev apart : ℕ → ℕ → Bool
 apart w v = (spares w (sets v) && spares v (sets w)) && not (eqb (sets v) (sets w))
 
+-- the same XOR but for the places of its operands
+abbrev exchanged : ℕ → ℕ → Bool
+exchanged w v =
+    (eqb (kindOf w) 2 && eqb (kindOf v) 2) && (eqb (sets w) (sets v) && (eqb (w / 2 ^ 9 % 32) (v % 32) && eqb (w % 32) (v / 2 ^ 9 % 32)))
+
+abbrev same : ℕ → ℕ → Bool
+same w v = eqb w v || exchanged w v
+
 -- w stands in ws, and before it only words that it may go before
 abbrev comesFirst : ℕ → List ℕ → Bool
 comesFirst w [] = false
-comesFirst w (v ∷ ws) = cond (eqb w v) true (apart w v && comesFirst w ws)
+comesFirst w (v ∷ ws) = cond (same w v) true (apart w v && comesFirst w ws)
 
 abbrev without : ℕ → List ℕ → List ℕ
 without w [] = []
-without w (v ∷ ws) = cond (eqb w v) ws (v ∷ without w ws)
+without w (v ∷ ws) = cond (same w v) ws (v ∷ without w ws)
 
 -- the words ws in the order of vs, which changes nothing
 abbrev pub reorders : List ℕ → List ℕ → Bool
@@ -87,19 +98,32 @@ swap i w v c h =
     ∙ set-comm c (32 * i + sets v) (32 * i + sets w) G F (λ q. eqb-false (sets v) (sets w) (is-false _ (e .1)) (omega arith))
     ∙ sym (ap (set (set c (32 * i + sets w) F) (32 * i + sets v)) (unread i v (sets w) F c (f .1)))
 
+exchange : (i w v : ℕ) (c : List ℕ) → T (exchanged w v) → onShare i w c ≡ onShare i v c
+unfolding onShare linearWord
+exchange i w v c h =
+    let e = both (eqb (kindOf w) 2 && eqb (kindOf v) 2) _ h in
+    let k = both (eqb (kindOf w) 2) _ (e .0) in
+    let f = both (eqb (sets w) (sets v)) _ (e .1) in
+    let g = both (eqb (w / 2 ^ 9 % 32) (v % 32)) _ (f .1) in
+    rw (eqb→eq (kindOf w) 2 (k .0), eqb→eq (kindOf v) 2 (k .1), eqb→eq (sets w) (sets v) (f .0), eqb→eq (w / 2 ^ 9 % 32) (v % 32) (g .0), eqb→eq (w % 32) (v / 2 ^ 9 % 32) (g .1))
+    (ap (set c (32 * i + sets v)) (xor-comm _ _))
+
+alike : (i w v : ℕ) (c : List ℕ) → T (same w v) → onShare i w c ≡ onShare i v c
+alike i w v c h = or-elim (eqb w v) (exchanged w v) (λ e. ap (λ (x : ℕ). onShare i x c) (eqb→eq w v e)) (exchange i w v c) h
+
 -- ---- lists
 module _ (i w : ℕ) where
-  first-at : (v : ℕ) (ws c : List ℕ) (b : Bool) → eqb w v ≡ b → T (cond b true (apart w v && comesFirst w ws))
+  first-at : (v : ℕ) (ws c : List ℕ) (b : Bool) → same w v ≡ b → T (cond b true (apart w v && comesFirst w ws))
       → ((c : List ℕ) → T (comesFirst w ws) → onShareAll i ws c ≡ onShareAll i (without w ws) (onShare i w c))
       → onShareAll i ws (onShare i v c) ≡ onShareAll i (cond b ws (v ∷ without w ws)) (onShare i w c)
-  first-at v ws c true e h later = ap (λ (x : ℕ). onShareAll i ws (onShare i x c)) (sym (eqb-true w v e))
+  first-at v ws c true e h later = ap (onShareAll i ws) (sym (alike i w v c (subst T (sym e) tt)))
   first-at v ws c false e h later =
       let f = both (apart w v) (comesFirst w ws) h in
       later (onShare i v c) (f .1) ∙ ap (onShareAll i (without w ws)) (swap i w v c (f .0))
 
   first : (ws c : List ℕ) → T (comesFirst w ws) → onShareAll i ws c ≡ onShareAll i (without w ws) (onShare i w c)
   first [] c h = absurd h
-  first (v ∷ ws) c h = first-at v ws c (eqb w v) refl h (λ d f. first ws d f)
+  first (v ∷ ws) c h = first-at v ws c (same w v) refl h (λ d f. first ws d f)
 
 reordered : (i : ℕ) (vs ws c : List ℕ) → T (reorders ws vs) → onShareAll i ws c ≡ onShareAll i vs c
 reordered i [] [] c h = refl

@@ -53,11 +53,11 @@ fn on_share(k: usize, i: usize, cells: &mut [u64])
         }
         53 => {
             eight(
-                0x20180A09,
-                0x2014100A,
+                0x20181205,
+                0x20141408,
                 0x601C0E01,
                 0x50240A3F,
-                0x201C0E09,
+                0x201C1207,
                 0x60140A01,
                 0x20200A06,
                 0x20240A03,
@@ -67,29 +67,29 @@ fn on_share(k: usize, i: usize, cells: &mut [u64])
         }
         54 => {
             sixteen(
-                0x20180A09,
-                0x5028000C,
-                0x20141003,
-                0x601C0E01,
-                0x50240A3F,
-                0x6028140C,
-                0x201C0E09,
                 0x50440001,
-                0x60140A01,
+                0x20180A09,
                 0x60442235,
+                0x601C0E01,
+                0x20140608,
+                0x50240A3F,
                 0x50442235,
-                0x20140A11,
-                0x20240A0A,
+                0x5028000C,
+                0x201C1207,
+                0x60140A01,
+                0x20142205,
                 0x50440201,
                 0x60442235,
                 0x50442235,
+                0x6028140C,
+                0x20180C11,
                 i,
                 cells,
             );
-            two(0x20180C11, 0x20200A06, i, cells);
+            two(0x20240A0A, 0x20200C05, i, cells);
         }
         55 => {
-            four(0x20180A09, 0x2014100A, 0x601C0E01, 0x50240A3F, i, cells);
+            four(0x20181205, 0x601C0E01, 0x20141408, 0x50240A3F, i, cells);
             two(0x201C0E09, 0x60140A01, i, cells);
         }
         56 => {
@@ -115,7 +115,7 @@ fn on_share(k: usize, i: usize, cells: &mut [u64])
                 0x50381A35,
                 0x60442234,
                 0x60381C35,
-                0x20381C11,
+                0x2038220E,
                 0x50440E0C,
                 i,
                 cells,
@@ -199,11 +199,11 @@ fn on_share(k: usize, i: usize, cells: &mut [u64])
             four(0x20440001, 0x6044223F, 0x5044223F, 0x20080411, i, cells);
         }
         _ => {
-            four(0x20180A09, 0x2014100A, 0x601C0E01, 0x50240A3F, i, cells);
-            two(0x201C0E09, 0x60140A01, i, cells);
-            linear(0x20200A06, i, cells);
+            four(0x20181205, 0x20141408, 0x601C0E01, 0x50240A3F, i, cells);
+            two(0x201C1207, 0x60140A01, i, cells);
+            linear(0x20200C05, i, cells);
             shifted(0x60280200, (k - 1) as u32, i, cells);
-            four(0x70281400, 0x6028140A, 0x20281404, 0x20240A0A, i, cells);
+            four(0x70281400, 0x6028140A, 0x2028080A, 0x20241405, i, cells);
         }
     }
 }

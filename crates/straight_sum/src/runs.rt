@@ -49,7 +49,7 @@ fn on_share(k: usize, i: usize, cells: &mut [u64])
             two(0x60301201, 0x20301809, i, cells);
         }
         3 => {
-            four(0x2024120C, 0x60140834, 0x70140A00, 0x60301201, i, cells);
+            four(0x20241809, 0x60140834, 0x70140A00, 0x60301201, i, cells);
             linear(0x20301809, i, cells);
         }
         4 => {
@@ -146,18 +146,18 @@ fn on_share(k: usize, i: usize, cells: &mut [u64])
         16 => {
             eight(
                 0x60301C20,
+                0x50401201,
                 0x40341C00,
                 0x50141A3F,
                 0x60341A20,
-                0x50341A3F,
-                0x60341A3F,
+                0x60140A3F,
                 0x2030180E,
                 0x60301810,
                 i,
                 cells,
             );
-            four(0x50401201, 0x60140A3F, 0x20402005, 0x70301800, i, cells);
-            two(0x50301801, 0x2030180D, i, cells);
+            four(0x20402005, 0x70301800, 0x50301801, 0x50341A3F, i, cells);
+            two(0x60341A3F, 0x2030180D, i, cells);
         }
         17 => {
             two(0x6034063F, 0x70341A00, i, cells);

@@ -15,7 +15,7 @@ use Rattle.straight_product.proofs.runs.on_share.Tie as tie
 
 -- its words in the order in which they are done
 abbrev row-done : ℕ → List ℕ
-row-done q = 538446345 ∷ 538185738 ∷ 1612451329 ∷ 1344539199 ∷ 538709513 ∷ 1611926017 ∷ 538970630 ∷ (1613234688 + q) ∷ 1881674752 ∷ 1613239306 ∷ 539497476 ∷ 539232778 ∷ []
+row-done q = 538448389 ∷ 538186760 ∷ 1612451329 ∷ 1344539199 ∷ 538710535 ∷ 1611926017 ∷ 538971141 ∷ (1613234688 + q) ∷ 1881674752 ∷ 1613239306 ∷ 539494410 ∷ 539235333 ∷ []
 
 numbered-run : (k : ℕ) → (2 ≤ k) × (k < 53) → getD runs k lastRun ≡ row (k - 1)
 numbered-run k h = numbered row after lastRun first 1 51 k (h .0) (h .1) ∙ ap row (omega (arith, h .0))
@@ -27,19 +27,19 @@ returns-2 : tie.Need-returns-2
 returns-2 c = in-order (538446345 ∷ 538185738 ∷ 1613234688 ∷ 1881674752 ∷ 270270464 ∷ 1613239306 ∷ 539497476 ∷ 539232778 ∷ 1343753217 ∷ 538970630 ∷ []) (getD runs 1 lastRun) (c .before .before .before .before .before .before .before .before .before .before .args .i) (now (c .before .before .before .before .before .before .before .before .before .before .args .cells)) (rw (c .before .before .two2 .ensures, c .before .before .before .before .before .before .eight2 .ensures)) (ap (λ (k : ℕ). getD runs k lastRun) (c .before .before .before .before .before .before .before .before .match .keys2)) tt
 
 returns-3 : tie.Need-returns-3
-returns-3 c = rw (c .before .before .before .before .match .keys3, c .before .before .eight3 .ensures)
+returns-3 c = in-order (538448389 ∷ 538186760 ∷ 1612451329 ∷ 1344539199 ∷ 538710535 ∷ 1611926017 ∷ 538970630 ∷ 539232771 ∷ []) (getD runs 53 lastRun) (c .before .before .before .before .before .before .args .i) (now (c .before .before .before .before .before .before .args .cells)) (rw (c .before .before .eight3 .ensures)) (ap (λ (k : ℕ). getD runs k lastRun) (c .before .before .before .before .match .keys3)) tt
 
 returns-4 : tie.Need-returns-4
-returns-4 c = in-order (538446345 ∷ 1344798732 ∷ 538185731 ∷ 1612451329 ∷ 1344539199 ∷ 1613239308 ∷ 538709513 ∷ 1346633729 ∷ 1611926017 ∷ 1615077941 ∷ 1346642485 ∷ 538184209 ∷ 539232778 ∷ 1346634241 ∷ 1615077941 ∷ 1346642485 ∷ 538446865 ∷ 538970630 ∷ []) (getD runs 54 lastRun) (c .before .before .before .before .before .before .before .before .before .before .args .i) (now (c .before .before .before .before .before .before .before .before .before .before .args .cells)) (rw (c .before .before .two3 .ensures, c .before .before .before .before .before .before .sixteen .ensures)) (ap (λ (k : ℕ). getD runs k lastRun) (c .before .before .before .before .before .before .before .before .match .keys4)) tt
+returns-4 c = in-order (1346633729 ∷ 538446345 ∷ 1615077941 ∷ 1612451329 ∷ 538183176 ∷ 1344539199 ∷ 1346642485 ∷ 1344798732 ∷ 538710535 ∷ 1611926017 ∷ 538190341 ∷ 1346634241 ∷ 1615077941 ∷ 1346642485 ∷ 1613239308 ∷ 538446865 ∷ 539232778 ∷ 538971141 ∷ []) (getD runs 54 lastRun) (c .before .before .before .before .before .before .before .before .before .before .args .i) (now (c .before .before .before .before .before .before .before .before .before .before .args .cells)) (rw (c .before .before .two3 .ensures, c .before .before .before .before .before .before .sixteen .ensures)) (ap (λ (k : ℕ). getD runs k lastRun) (c .before .before .before .before .before .before .before .before .match .keys4)) tt
 
 returns-5 : tie.Need-returns-5
-returns-5 c = rw (c .before .before .before .before .before .before .before .before .match .keys5, c .before .before .two4 .ensures, c .before .before .before .before .before .before .four2 .ensures)
+returns-5 c = in-order (538448389 ∷ 1612451329 ∷ 538186760 ∷ 1344539199 ∷ 538709513 ∷ 1611926017 ∷ []) (getD runs 55 lastRun) (c .before .before .before .before .before .before .before .before .before .before .args .i) (now (c .before .before .before .before .before .before .before .before .before .before .args .cells)) (rw (c .before .before .two4 .ensures, c .before .before .before .before .before .before .four2 .ensures)) (ap (λ (k : ℕ). getD runs k lastRun) (c .before .before .before .before .before .before .before .before .match .keys5)) tt
 
 returns-6 : tie.Need-returns-6
 returns-6 c = rw (c .before .before .before .before .before .before .before .before .match .keys6, c .before .before .linear2 .ensures, c .before .before .before .before .before .before .eight4 .ensures)
 
 returns-7 : tie.Need-returns-7
-returns-7 c = in-order (540285448 ∷ 1615075852 ∷ 1346642495 ∷ 1345854005 ∷ 1615077940 ∷ 1614289973 ∷ 540548113 ∷ 1346637324 ∷ 540548113 ∷ 1077419008 ∷ 1615076384 ∷ []) (getD runs 57 lastRun) (c .before .before .before .before .before .before .before .before .before .before .before .before .before .before .args .i) (now (c .before .before .before .before .before .before .before .before .before .before .before .before .before .before .args .cells)) (rw (c .before .before .linear3 .ensures, c .before .before .before .before .before .before .two5 .ensures, c .before .before .before .before .before .before .before .before .before .before .eight5 .ensures)) (ap (λ (k : ℕ). getD runs k lastRun) (c .before .before .before .before .before .before .before .before .before .before .before .before .match .keys7)) tt
+returns-7 c = in-order (540285448 ∷ 1615075852 ∷ 1346642495 ∷ 1345854005 ∷ 1615077940 ∷ 1614289973 ∷ 540549646 ∷ 1346637324 ∷ 540548113 ∷ 1077419008 ∷ 1615076384 ∷ []) (getD runs 57 lastRun) (c .before .before .before .before .before .before .before .before .before .before .before .before .before .before .args .i) (now (c .before .before .before .before .before .before .before .before .before .before .before .before .before .before .args .cells)) (rw (c .before .before .linear3 .ensures, c .before .before .before .before .before .before .two5 .ensures, c .before .before .before .before .before .before .before .before .before .before .eight5 .ensures)) (ap (λ (k : ℕ). getD runs k lastRun) (c .before .before .before .before .before .before .before .before .before .before .before .before .match .keys7)) tt
 
 returns-8 : tie.Need-returns-8
 returns-8 c = rw (c .before .before .before .before .match .keys8, c .before .before .linear4 .ensures)

@@ -22,7 +22,7 @@ returns-3 : tie.Need-returns-3
 returns-3 c = rw (c .before .before .before .before .before .before .before .before .match .keys3, c .before .before .two .ensures, c .before .before .before .before .before .before .sixteen .ensures)
 
 returns-4 : tie.Need-returns-4
-returns-4 c = rw (c .before .before .before .before .before .before .before .before .match .keys4, c .before .before .linear2 .ensures, c .before .before .before .before .before .before .four3 .ensures)
+returns-4 c = in-order (539236361 ∷ 1611925556 ∷ 1880361472 ∷ 1613763073 ∷ 540022793 ∷ []) (getD runs 3 lastRun) (c .before .before .before .before .before .before .before .before .before .before .args .i) (now (c .before .before .before .before .before .before .before .before .before .before .args .cells)) (rw (c .before .before .linear2 .ensures, c .before .before .before .before .before .before .four3 .ensures)) (ap (λ (k : ℕ). getD runs k lastRun) (c .before .before .before .before .before .before .before .before .match .keys4)) tt
 
 returns-5 : tie.Need-returns-5
 returns-5 c = rw (c .before .before .before .before .before .before .before .before .match .keys5, c .before .before .linear3 .ensures, c .before .before .before .before .before .before .four4 .ensures)
@@ -61,7 +61,7 @@ returns-16 : tie.Need-returns-16
 returns-16 c = rw (c .before .before .before .before .match .keys16, c .before .before .linear13 .ensures)
 
 returns-17 : tie.Need-returns-17
-returns-17 c = in-order (1613765664 ∷ 1077156864 ∷ 1343494719 ∷ 1614027296 ∷ 1345591871 ∷ 1614027327 ∷ 540022798 ∷ 1613764624 ∷ 1346376193 ∷ 1611926079 ∷ 541073413 ∷ 1882200064 ∷ 1345329153 ∷ 540022797 ∷ []) (getD runs 16 lastRun) (c .before .before .before .before .before .before .before .before .before .before .before .before .before .before .args .i) (now (c .before .before .before .before .before .before .before .before .before .before .before .before .before .before .args .cells)) (rw (c .before .before .two6 .ensures, c .before .before .before .before .before .before .four8 .ensures, c .before .before .before .before .before .before .before .before .before .before .eight5 .ensures)) (ap (λ (k : ℕ). getD runs k lastRun) (c .before .before .before .before .before .before .before .before .before .before .before .before .match .keys17)) tt
+returns-17 c = in-order (1613765664 ∷ 1346376193 ∷ 1077156864 ∷ 1343494719 ∷ 1614027296 ∷ 1611926079 ∷ 540022798 ∷ 1613764624 ∷ 541073413 ∷ 1882200064 ∷ 1345329153 ∷ 1345591871 ∷ 1614027327 ∷ 540022797 ∷ []) (getD runs 16 lastRun) (c .before .before .before .before .before .before .before .before .before .before .before .before .before .before .args .i) (now (c .before .before .before .before .before .before .before .before .before .before .before .before .before .before .args .cells)) (rw (c .before .before .two6 .ensures, c .before .before .before .before .before .before .four8 .ensures, c .before .before .before .before .before .before .before .before .before .before .eight5 .ensures)) (ap (λ (k : ℕ). getD runs k lastRun) (c .before .before .before .before .before .before .before .before .before .before .before .before .match .keys17)) tt
 
 returns-18 : tie.Need-returns-18
 returns-18 c = rw (c .before .before .before .before .before .before .before .before .match .keys18, c .before .before .linear14 .ensures, c .before .before .before .before .before .before .two7 .ensures)
