@@ -172,8 +172,8 @@ def put_in_order(name, arms, text):
         arm = next((arm for arm in arms if str(arm.first) == run.strip()), None)
         found = [re.fullmatch(r"(\d+)('?)", place) for place in places.split()]
         order = [int(place[1]) for place in found if place]
-        if arm is None or not all(found) or sorted(order) != list(range(len(arm.words))):
-            refuse(f"{name}: order {line!r} does not name a run and the places of its words")
+        if arm is None or arm.order or not all(found) or sorted(order) != list(range(len(arm.words))):
+            refuse(f"{name}: order {line!r} does not name a run, or the first of a group, once, and the places of its words")
         if any(place[2] and arm.words[int(place[1])] >> 28 != XOR for place in found):
             refuse(f"{name}: order {line!r} exchanges the operands of a word that is no XOR")
         passed = [(j, i) for at, j in enumerate(order) for i in order[at + 1:] if i < j and not may_pass(arm.words[j], arm.words[i])]

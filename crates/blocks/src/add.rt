@@ -44,8 +44,8 @@ fn begun(k: u32, a: Place, b: Place, n: usize, tape: &[u64], t: usize, cells: &m
     and_of_helpers(s, a.base, b.base, n, tape, t, cells)
 }
 
-// G = G XOR T; T = P SHL k. Both for one share before the next: share i's helpers are the cells from q on. From the last share to the
-// first: the AND before leaves P's last share in a register.
+// G = G XOR T; T = P SHL k, both for one share and then for another: share i's helpers are the cells from q on. The last share goes first, because the
+// AND before leaves P's last share in a register, and share 0 is not to be loaded over it (tests/leakage).
 fn merged(k: u32, n: usize, cells: &mut [u64])
     requires { ⌜ (k < 64) × (n ≤ 8) × (length (now cells) ≡ 512) ⌝ }
     ensures { λ _. ⌜ Still (blocks scratch n (Xor rG rG rT ∷ Shl rT rP k ∷ [])) (now (cells .entry)) (now (cells .exit)) ⌝ }
