@@ -73,7 +73,7 @@ def checked(name, words, operands):
         if read - known:
             refuse(f"{name}: word {k} reads register {min(read - known)}, which is no operand and is not written before")
         known.add(d)
-    if 2 not in known - set(range(operands)):
+    if 2 not in known:
         refuse(f"{name} does not write register 2")
     if not any(word >> 28 in (AND, ADD) for word in words):
         refuse(f"{name} has no AND and no ADD")
@@ -191,7 +191,7 @@ class Plan:
             refuse(f"{name} is no name: small letters and digits, a letter first")
         if not section.get("title") or not section.get("words") or section.get("operands") not in ("1", "2"):
             refuse(f"{name} wants a title, words, and 1 or 2 operands")
-        self.name, self.crate, self.title = name, "straight_" + name, section["title"]
+        self.crate, self.title = "straight_" + name, section["title"]
         self.own = "plan" not in section
         own = "Rattle.%s.specs.Plan.%sPlan" % (self.crate, name)
         self.module, _, self.plan = section.get("plan", own).rpartition(".")
