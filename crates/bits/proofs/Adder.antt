@@ -10,7 +10,7 @@ use Rattle.bits.specs.Ops.{xorW, andW, shlW, addW}
 use Rattle.bits.specs.Adder.{Carry, carryRound, carryRounds, entered, adder, AdderAdds}
 use Rattle.bits.proofs.Xor.{xor-assoc, xor-zero, xor-cancel, and-zero, and-xor, and-assoc}
 use Rattle.bits.proofs.Shift.{shl-xor, shl-and, shl-shl, shl-width, shl-zero}
-use Rattle.bits.proofs.Bound.{xor-lt, add-lt}
+use Rattle.bits.proofs.Bound.{xor-lt, and-lt, add-lt}
 use Rattle.bits.proofs.Sum.{maj, full-adder}
 
 -- K's carries are made inside the window of size k (G) or come through it from k places below (P)
@@ -27,6 +27,14 @@ round-carries K k c h =
     regroup : (g p g′ p′ x : ℕ) → xorW g (andW p (xorW g′ (andW p′ x))) ≡ xorW (xorW g (andW p g′)) (andW (andW p p′) x)
     regroup g p g′ p′ x = simp (and-xor, and-assoc, xor-assoc)
 
+-- the carries out of each place of a + b: made there, or passed on from the place below
+pub record CarriesOut (a b : ℕ) : Type 0 where
+  pub carries : ℕ
+  pub made : carries ≡ maj a b (shlW carries 1)
+  pub sum : xorW (xorW a b) (shlW carries 1) ≡ addW a b
+  pub word : carries < 2 ^ 64
+  pub out : carries / 2 ^ 63 ≡ (a + b) / 2 ^ 64
+
 -- a sum and its carries-in C: C is its carries-out, one place up
 module _ (a b : ℕ) (ha : a < 2 ^ 64) (hb : b < 2 ^ 64) where
   C : ℕ
@@ -39,12 +47,27 @@ module _ (a b : ℕ) (ha : a < 2 ^ 64) (hb : b < 2 ^ 64) where
   unfolding C
   C-lt = xor-lt 64 (xorW a b) (addW a b) (xor-lt 64 a b ha hb) (add-lt a b)
 
-  up : shlW K 1 ≡ C
-  unfolding C K shlW addW
-  up =
+  doubled : K * 2 ≡ (a + b) / 2 ^ 64 * 2 ^ 64 + C
+  unfolding C K addW
+  doubled =
       let f : (a + b) % 2 ^ 64 + K * 2 ≡ a + b + C = ap (λ (x : ℕ). x + K * 2) (sym (xor-cancel (xorW a b) (addW a b))) ∙ full-adder a b C in
-      let g : K * 2 ≡ (a + b) / 2 ^ 64 * 2 ^ 64 + C = omega (arith, div-add-mod' (a + b) (2 ^ 64)) in
-      ap (λ (x : ℕ). x % 2 ^ 64) g ∙ mul-add-mod-self-right ((a + b) / 2 ^ 64) (2 ^ 64) C ∙ mod-eq-of-lt C-lt
+      omega (arith, div-add-mod' (a + b) (2 ^ 64))
+
+  up : shlW K 1 ≡ C
+  unfolding shlW
+  up = ap (λ (x : ℕ). x % 2 ^ 64) doubled ∙ mul-add-mod-self-right ((a + b) / 2 ^ 64) (2 ^ 64) C ∙ mod-eq-of-lt C-lt
+
+  -- a sum's carries-out, by which other adders are proved
+  pub carries-out : CarriesOut a b
+  unfolding K C
+  carries-out =
+      record {
+        carries = K;
+        made = ap (maj a b) (sym up);
+        sum = ap (xorW (xorW a b)) up ∙ xor-cancel (xorW a b) (addW a b);
+        word = xor-lt 64 (andW a b) (andW (xorW a b) C) (and-lt 64 a b ha) (and-lt 64 (xorW a b) C (xor-lt 64 a b ha hb));
+        out = let c = C-lt in omega (arith, doubled);
+      }
 
   entered-carries : Carries K 1 (entered a b)
   unfolding Carries K

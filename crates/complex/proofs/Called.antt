@@ -19,7 +19,7 @@ use Rattle.complex.proofs.Laws.{tape-append, shares-append}
 use Rattle.complex.proofs.Slots.{plan-accepted, acts-shared}
 
 -- every test passes
-answer-done : (needed n other result work tape : ℕ) → 2 ≤ n → n ≤ 8 → other ≡ n → result ≡ n → work ≡ 512 → needed ≤ tape
+pub answer-done : (needed n other result work tape : ℕ) → 2 ≤ n → n ≤ 8 → other ≡ n → result ≡ n → work ≡ 512 → needed ≤ tape
     → answerFor needed n other result work tape ≡ done 0 needed
 unfolding answerFor
 answer-done needed n other result work tape least most o r w enough =

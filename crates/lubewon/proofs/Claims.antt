@@ -32,6 +32,7 @@ use Rattle.complex.proofs.Examples as worked-complex
 use Rattle.listing.proofs.Whole as listing
 use Rattle.listing.proofs.Example as listed
 use Rattle.lubewon.specs.Claims.{Claims}
+use Rattle.lubewon.proofs.RandomWords as random
 use Rattle.lubewon.proofs.TurnDowns as turned-down
 
 pub claims : Claims
@@ -69,6 +70,7 @@ claims =
       transforms = complex-numbers.transforms;
       layer-means = layer-meaning.layer-means;
       on-shares-means = on-shares.on-shares-means;
+      random-words = random.random-words;
       pieces-are-listing = listing.pieces-are-listing;
       example = listed.example;
       word-examples = plain-examples.word-examples;

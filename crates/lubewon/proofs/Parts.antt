@@ -38,12 +38,13 @@ use Rattle.binary64.specs.Whole.{Dropped}
 use Rattle.binary64.specs.Meaning.{NearestEven, Rounded, GreatestWhole, WholePart, NearestWhole}
 use Rattle.binary64.specs.Corners.{Corners}
 use Rattle.plans.specs.Computes.{Computes}
-use Rattle.plans.specs.Cost.{Cost, Figures}
+use Rattle.plans.specs.Cost.{Figures}
 use Rattle.plans.specs.BuiltIns.{BuiltIn}
 use Rattle.plans.specs.ProductRows.{ByRows}
 use Rattle.operations.specs.Masked.{Operand, StepSecret, OnShares}
 use Rattle.execution.specs.WholeRun.{WholeRun}
 use Rattle.splitting.specs.SplitJoin.{SplitJoins}
+use Rattle.lubewon.specs.RandomWords.{Takes, RandomWords}
 use Rattle.lubewon.specs.TurnDowns.{TurnDowns}
 
 of-parts : {rule : Step → Bool} {w : ℕ} → OfParts rule w → OfParts rule w
@@ -141,14 +142,18 @@ corners h = record { reads-zero = h .reads-zero; reads-number = h .reads-number;
 computes : {plan : List ℕ} {op : ℕ → ℕ → ℕ} → Computes plan op → Computes plan op
 computes h = record { short = h .short; none-bad = h .none-bad; entries = h .entries; result = h .result }
 
-cost : {plan operands : List ℕ} {ceiling : ℕ} → Cost plan operands ceiling → Cost plan operands ceiling
-cost h = record { tape = h .tape; inputs = h .inputs }
-
 figures : {plan : List ℕ} {words ands adds : ℕ} → Figures plan words ands adds → Figures plan words ands adds
 figures h = record { words-are = h .words-are; ands-are = h .ands-are; adds-are = h .adds-are; tape-is = h .tape-is }
 
 built-in : {o : Operation} → BuiltIn o → BuiltIn o
-built-in h = record { computes = h .computes; cost = h .cost; figures = h .figures }
+built-in h = record { computes = h .computes; inputs = h .inputs; figures = h .figures }
+
+takes : {o : Operation} {times ceiling : ℕ} → Takes o times ceiling → Takes o times ceiling
+takes h = record { counted = h .counted; foretold = h .foretold; reported = h .reported; below = h .below; shares = h .shares; enough = h .enough }
+
+random-words : RandomWords → RandomWords
+random-words h =
+    record { by-words = h .by-words; product = h .product; sum = h .sum; floor = h .floor; truncate = h .truncate; nearest = h .nearest; complex = h .complex; layer = h .layer }
 
 by-rows : ByRows → ByRows
 by-rows h = record { parts = h .parts; rows = h .rows; words = h .words; tables = h .tables; fewer = h .fewer }

@@ -49,7 +49,8 @@ use Rattle.plans.specs.FloorPlan.{floorPlan}
 use Rattle.plans.specs.TruncatePlan.{truncatePlan}
 use Rattle.plans.specs.NearestPlan.{nearestPlan}
 use Rattle.plans.specs.Computes.{Computes}
-use Rattle.execution.specs.Shares.{callAnswer, placed, placedOver, resultAfter, resultShares}
+use Rattle.plans.specs.Cost.{ofKind}
+use Rattle.execution.specs.Shares.{callAnswer, placed, placedOver, resultAfter, resultShares, zerosFor}
 use Rattle.operations.specs.Masked.{Operand, StepSecret, OnShares}
 use Rattle.execution.specs.WholeRun.{WholeRun}
 use Rattle.splitting.specs.SplitJoin.{xorAll, splitOf, splitAnswer, splitOut, joinedWord}
@@ -233,15 +234,39 @@ module _ (C : Claims) where
   product-tables : tableWords + 256 ≤ length productPlan
   product-tables = C .product-by-rows .fewer
 
-  -- the tape words of the roundings
-  floor-tape : (n : ℕ) → 2 ≤ n → n ≤ 8 → foretoldTape n floorPlan ≤ 12 * (n * (n - 1))
-  floor-tape = C .built-ins Floor .cost .tape
+  -- the tape words of any plan from its own words, those that done calls report, and the request's ceilings
+  plan-tape : (n : ℕ) (plan : List ℕ) → 2 ≤ n → n ≤ 8 → foretoldTape n plan ≡ (ofKind 3 plan + 12 * ofKind 8 plan) * (n * (n - 1))
+  plan-tape = C .random-words .by-words
 
-  truncate-tape : (n : ℕ) → 2 ≤ n → n ≤ 8 → foretoldTape n truncatePlan ≤ 5 * (n * (n - 1))
-  truncate-tape = C .built-ins Truncate .cost .tape
+  product-tape : (x y result work tape : List ℕ) → callAnswer productPlan x y result work tape .number ≡ 0
+      → callAnswer productPlan x y result work tape .tape ≡ 89 * (length x * (length x - 1))
+  product-tape = C .random-words .product .reported
 
-  nearest-tape : (n : ℕ) → 2 ≤ n → n ≤ 8 → foretoldTape n nearestPlan ≤ 14 * (n * (n - 1))
-  nearest-tape = C .built-ins Nearest .cost .tape
+  product-ceiling : (x y result work tape : List ℕ) → callAnswer productPlan x y result work tape .number ≡ 0
+      → callAnswer productPlan x y result work tape .tape ≤ 1000 * (length x * (length x - 1))
+  product-ceiling = C .random-words .product .below
+
+  sum-tape : (x y result work tape : List ℕ) → callAnswer sumPlan x y result work tape .number ≡ 0
+      → callAnswer sumPlan x y result work tape .tape ≡ 81 * (length x * (length x - 1))
+  sum-tape = C .random-words .sum .reported
+
+  sum-ceiling : (x y result work tape : List ℕ) → callAnswer sumPlan x y result work tape .number ≡ 0
+      → callAnswer sumPlan x y result work tape .tape ≤ 600 * (length x * (length x - 1))
+  sum-ceiling = C .random-words .sum .below
+
+  floor-tape : (x result work tape : List ℕ) → callAnswer floorPlan x (zerosFor x) result work tape .number ≡ 0
+      → callAnswer floorPlan x (zerosFor x) result work tape .tape ≡ 12 * (length x * (length x - 1))
+  floor-tape x result work tape = C .random-words .floor .reported x (zerosFor x) result work tape
+
+  floor-ceiling : (x result work tape : List ℕ) → callAnswer floorPlan x (zerosFor x) result work tape .number ≡ 0
+      → callAnswer floorPlan x (zerosFor x) result work tape .tape ≤ 400 * (length x * (length x - 1))
+  floor-ceiling x result work tape = C .random-words .floor .below x (zerosFor x) result work tape
+
+  truncate-tape : (n : ℕ) → 2 ≤ n → n ≤ 8 → foretoldTape n truncatePlan ≡ 5 * (n * (n - 1))
+  truncate-tape = C .random-words .truncate .foretold
+
+  nearest-tape : (n : ℕ) → 2 ≤ n → n ≤ 8 → foretoldTape n nearestPlan ≡ 14 * (n * (n - 1))
+  nearest-tape = C .random-words .nearest .foretold
 
   product-shares : OnShares productPlan product
   product-shares = C .masked Product

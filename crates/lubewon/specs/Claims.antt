@@ -29,6 +29,7 @@ use Rattle.complex.specs.Means.{LayerMeans, OnSharesMeans}
 use Rattle.complex.specs.Examples.{ComplexExamples}
 use Rattle.listing.specs.Sharelist.{ExampleListed}
 use Rattle.listing.specs.Pieces.{PiecesAreListing}
+use Rattle.lubewon.specs.RandomWords.{RandomWords}
 use Rattle.lubewon.specs.TurnDowns.{TurnDowns}
 
 pub record Claims : Type 0 where
@@ -75,6 +76,8 @@ pub record Claims : Type 0 where
   -- what a layer makes of each pair, on plain words; what complex product and pair come to on shares, call by call on the tape
   pub layer-means : LayerMeans
   pub on-shares-means : OnSharesMeans
+  -- how many random words each operation on shares takes, the complex product and a layer
+  pub random-words : RandomWords
   -- the listing in the pieces that `list_piece` writes, and document 01's example of it
   pub pieces-are-listing : PiecesAreListing
   pub example : ExampleListed

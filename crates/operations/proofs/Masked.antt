@@ -46,7 +46,7 @@ operands-low Nearest = tt
 pub masked : Masked
 masked o =
     let B = built-ins o in
-    on-shares (planOf o) (onWords o) (B .computes) (any-start (B .computes) (described o .operands) (operands-low o) (B .cost .inputs))
+    on-shares (planOf o) (onWords o) (B .computes) (any-start (B .computes) (described o .operands) (operands-low o) (B .inputs))
 
 -- what a call leaves, and with it what is proved of every operation
 pub with-masked : {A B C : Type 0} → A × (B × C) → A × (B × (C × Masked))

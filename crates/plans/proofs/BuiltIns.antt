@@ -1,4 +1,4 @@
--- The built-in plans compute their operations within their ceilings.
+-- The built-in plans compute their operations, read their operands only, and have the figures that are said of them.
 use Rattle.binary64.specs.Operations.{Operation, Product, Sum, Floor, Truncate, Nearest, onWords}
 use Rattle.plans.specs.Computes.{Computes}
 use Rattle.plans.specs.BuiltIns.{described, planOf, BuiltIn, BuiltIns}
@@ -11,7 +11,7 @@ use Rattle.plans.proofs.Cost.{OfWords, product-words, sum-words, floor-
 
 -- a plan that computes its operation, with what is computed of its words
 built-in : (o : Operation) → Computes (planOf o) (onWords o) → OfWords (described o) → BuiltIn o
-built-in o c w = record { computes = c; cost = w .0; figures = w .1 }
+built-in o c w = record { computes = c; inputs = w .0; figures = w .1 }
 
 pub built-ins : BuiltIns
 built-ins Product = built-in Product product-plan product-words

@@ -1,21 +1,21 @@
 -- What the built-in plans cost and read, computed from their own words: a plan's tape words are as many times n(n−1) as it has ANDs, with each
 -- ADD as twelve of them.
-use mathlib.Core.Path.{_≡_, sym, ap₂, _∙_}
-use mathlib.Core.Bool.{Bool, true, false, _&&_, cond}
+use mathlib.Core.Path.{_≡_, refl, sym, ap₂, _∙_, subst}
+use mathlib.Core.Bool.{Bool, true, false, cond}
 use mathlib.Core.List.{List, [], _∷_}
-use Prim.Native.Nat.{ℕ, _+_, _-_, _*_, _/_, _≤_}
-use native.Mathlib.Nat.{zero-mul, add-mul, mul-le-mul, le-trans, le-of-eq}
+use Prim.Native.Nat.{ℕ, _+_, _-_, _*_, _≤_}
+use native.Mathlib.Nat.{zero-mul, add-mul}
 use native.Mathlib.Omega.{arith}
-use lib.Dec.{T, eqb, leb, leb→le, eqb→eq}
+use lib.Dec.{T, eqb, eqb→eq}
 use lib.ListN.{length}
+use borrow.Author.Tests.{eqb-true}
 use Rattle.word.specs.Encoding.{row, named, put, kindOf}
 use Rattle.word.specs.Layout.{pairCount, tapeOf}
 use Rattle.masking.specs.Foretold.{foretoldTape}
 use Rattle.masking.specs.Reads.{readsOnly}
-use Rattle.word.proofs.Ranges.{both}
 use Rattle.plans.proofs.Tests.{every, each}
 use Rattle.binary64.specs.Operations.{Product, Sum, Floor, Truncate, Nearest}
-use Rattle.plans.specs.Cost.{Cost, Figures, ofKind}
+use Rattle.plans.specs.Cost.{Figures, ofKind}
 use Rattle.plans.specs.BuiltIns.{Described, described}
 use Rattle.plans.specs.ProductPlan.{productHead, carryRow, productRow, productRows, withExponents, highHalf, normalise, sticky, tests, roundPack, choose, productEnd, productTail, productSteps, productPlan}
 use Rattle.plans.specs.SumPlan.{sumPlan}
@@ -44,11 +44,25 @@ plan-units : (n : ℕ) (plan : List ℕ) → foretoldTape n plan ≡ units plan 
 plan-units n [] = sym (zero-mul (2 * pairCount n))
 plan-units n (w ∷ ws) = ap₂ _+_ (word-units (kindOf w) n) (plan-units n ws) ∙ sym (add-mul (unitsOf (kindOf w)) (units ws) (2 * pairCount n))
 
--- one computed test is enough: the units, the registers read, and the words of a plan with ANDs and ADDs among them
-abbrev tested : Described → Bool
-tested d =
-    (leb (units (d .plan)) (d .ceiling) && (readsOnly (d .plan) (d .operands) && (eqb (length (d .plan)) (d .words) && (eqb (ofKind 3 (d .plan)) (d .ands)
-    && (eqb (ofKind 8 (d .plan)) (d .adds) && eqb (units (d .plan)) (d .ands + 12 * d .adds))))))
+-- these are the ANDs, and twelve times the ADDs
+kind-units : (k : ℕ) → unitsOf k ≡ cond (eqb k 3) 1 0 + 12 * cond (eqb k 8) 1 0
+kind-units k = go (eqb k 3) refl
+  where
+    other : (b : Bool) → cond b 12 0 ≡ 0 + 12 * cond b 1 0
+    other true = refl
+    other false = refl
+
+    go : (b : Bool) → eqb k 3 ≡ b → unitsOf k ≡ cond (eqb k 3) 1 0 + 12 * cond (eqb k 8) 1 0
+    go true e = subst (λ (j : ℕ). unitsOf j ≡ cond (eqb j 3) 1 0 + 12 * cond (eqb j 8) 1 0) (sym (eqb-true k 3 e)) refl
+    go false e = rw e (other (eqb k 8))
+
+plan-kinds : (plan : List ℕ) → units plan ≡ ofKind 3 plan + 12 * ofKind 8 plan
+plan-kinds [] = refl
+plan-kinds (w ∷ ws) =
+    ap₂ _+_ (kind-units (kindOf w)) (plan-kinds ws) ∙ regroup (cond (eqb (kindOf w) 3) 1 0) (cond (eqb (kindOf w) 8) 1 0) (ofKind 3 ws) (ofKind 8 ws)
+  where
+    regroup : (a b c d : ℕ) → a + 12 * b + (c + 12 * d) ≡ a + c + 12 * (b + d)
+    regroup a b c d = omega arith
 
 -- twice the pairs of shares
 abbrev pairsTwice : ℕ → Bool
@@ -57,48 +71,41 @@ pairsTwice n = eqb (2 * pairCount n) (n * (n - 1))
 pairs-twice : T (every 9 pairsTwice)
 pairs-twice = tt
 
--- what is said of a plan's words
-abbrev pub OfWords : Described → Type 0
-OfWords d = Cost (d .plan) (d .operands) (d .ceiling) × Figures (d .plan) (d .words) (d .ands) (d .adds)
+-- the foretold tape words of any plan
+pub by-words : (n : ℕ) (plan : List ℕ) → 2 ≤ n → n ≤ 8 → foretoldTape n plan ≡ (ofKind 3 plan + 12 * ofKind 8 plan) * (n * (n - 1))
+by-words n plan least most = plan-units n plan ∙ ap₂ _*_ (plan-kinds plan) (eqb→eq _ _ (each 9 pairsTwice pairs-twice n (omega arith)))
 
-of-words : (d : Described) → T (tested d) → OfWords d
-of-words d h =
-    let t₁ = both (leb (units (d .plan)) (d .ceiling)) _ h in
-    let t₂ = both (readsOnly (d .plan) (d .operands)) _ (t₁ .1) in
-    let t₃ = both (eqb (length (d .plan)) (d .words)) _ (t₂ .1) in
-    let t₄ = both (eqb (ofKind 3 (d .plan)) (d .ands)) _ (t₃ .1) in
-    let t₅ = both (eqb (ofKind 8 (d .plan)) (d .adds)) _ (t₄ .1) in (
-      record {
-        tape = λ n least most. le-trans (le-of-eq (plan-units n (d .plan))) (mul-le-mul (leb→le (units (d .plan)) (d .ceiling) (t₁ .0)) (halves (n * (n - 1))));
-        inputs = t₂ .0;
-      },
-      record {
-        words-are = eqb→eq _ _ (t₃ .0);
-        ands-are = eqb→eq _ _ (t₄ .0);
-        adds-are = eqb→eq _ _ (t₅ .0);
-        tape-is = λ n least most. plan-units n (d .plan) ∙ ap₂ _*_ (eqb→eq _ _ (t₅ .1)) (eqb→eq _ _ (each 9 pairsTwice pairs-twice n (omega arith)));
-      },
-    )
-  where
-    halves : (p : ℕ) → 2 * (p / 2) ≤ p
-    halves p = omega arith
+-- what is said of a plan's words, each computed from them
+abbrev pub OfWords : Described → Type 0
+OfWords d = T (readsOnly (d .plan) (d .operands)) × Figures (d .plan) (d .words) (d .ands) (d .adds)
+
+of-words : (d : Described) → T (readsOnly (d .plan) (d .operands)) → length (d .plan) ≡ d .words → ofKind 3 (d .plan) ≡ d .ands → ofKind 8 (d .plan) ≡ d .adds → OfWords d
+of-words d reads words ands adds = (
+  reads,
+  record {
+    words-are = words;
+    ands-are = ands;
+    adds-are = adds;
+    tape-is = λ n least most. by-words n (d .plan) least most ∙ ap₂ (λ (i j : ℕ). (i + 12 * j) * (n * (n - 1))) ands adds;
+  },
+)
 
 pub product-words : OfWords (described Product)
 unfolding productHead carryRow productRow productRows withExponents highHalf normalise sticky tests roundPack choose productEnd productTail productSteps productPlan put named row
-product-words = of-words (described Product) tt
+product-words = of-words (described Product) tt refl refl refl
 
 pub sum-words : OfWords (described Sum)
 unfolding sumPlan put named row
-sum-words = of-words (described Sum) tt
+sum-words = of-words (described Sum) tt refl refl refl
 
 pub floor-words : OfWords (described Floor)
 unfolding floorPlan put named row
-floor-words = of-words (described Floor) tt
+floor-words = of-words (described Floor) tt refl refl refl
 
 pub truncate-words : OfWords (described Truncate)
 unfolding truncatePlan put named row
-truncate-words = of-words (described Truncate) tt
+truncate-words = of-words (described Truncate) tt refl refl refl
 
 pub nearest-words : OfWords (described Nearest)
 unfolding nearestPlan put named row
-nearest-words = of-words (described Nearest) tt
+nearest-words = of-words (described Nearest) tt refl refl refl

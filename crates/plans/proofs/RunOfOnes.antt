@@ -169,44 +169,50 @@ run-carries m hm k N F l hN hF (zs, os) = (λ i h. nextN-or k N F l hN hF i (ome
         (λ e. let q : m + a * k ≡ k + p = omega arith in ap (bit (nextN k N F)) q ∙ moved p (omega arith) (os (a / 2) (omega arith)))
         (a % 2) (bit-lt a) (times a)
 
--- ---- y + 1: the XOR with ones up to y's lowest 0, which is at m
+-- ---- a run N: zeros below m, ones from there on. NOT (N << 1) has ones up to m
+pub run-mask : (N m : ℕ) → m < 64 → ((i : ℕ) → i < m → bit N i ≡ 0) → ((i : ℕ) → m ≤ i → i < 64 → bit N i ≡ 1) → notW (shlW N 1) ≡ 2 ^ suc m - 1
+run-mask N m hm zeros ones = ones-by-bits 64 (suc m) (notW (shlW N 1)) hm (not-lt (shlW N 1)) below above
+  where
+    shifted : (i : ℕ) → suc i < 64 → bit (notW (shlW N 1)) (suc i) ≡ 1 - bit N i
+    shifted i h = bit-not (shlW N 1) (suc i) (shl-lt N 1) h ∙ ap (λ (x : ℕ). 1 - x) (ap (bit (shlW N 1)) (sym (one-add i)) ∙ bit-shl N 1 i (omega arith))
+
+    below : (i : ℕ) → i < suc m → bit (notW (shlW N 1)) i ≡ 1
+    below zero h = bit-not (shlW N 1) 0 (shl-lt N 1) (omega arith) ∙ ap (λ (x : ℕ). 1 - x) (bit-shl-low N 1 0 (omega arith))
+    below (suc i) h = shifted i (omega arith) ∙ ap (λ (x : ℕ). 1 - x) (zeros i (omega arith))
+
+    above : (i : ℕ) → suc m ≤ i → i < 64 → bit (notW (shlW N 1)) i ≡ 0
+    above zero g h = absurd (omega arith)
+    above (suc i) g h = shifted i h ∙ ap (λ (x : ℕ). 1 - x) (ones i (omega arith) (omega arith))
+
+-- a word whose lowest zero is at m ends in 2^m - 1
+pub lowest-zero : (y m : ℕ) → y < 2 ^ 64 → m < 64 → bit (notW y) m ≡ 1 → ((i : ℕ) → i < m → bit (notW y) i ≡ 0) → y % 2 ^ suc m ≡ 2 ^ m - 1
+lowest-zero y m hy hm one none =
+    ones-by-bits (suc m) m (y % 2 ^ suc m) (le-suc m) (mod-lt y (pow-pos (suc m)))
+    (λ i h. bit-mod y (suc m) i (omega arith) ∙ omega (arith, bit-not y i hy (omega arith), none i h))
+    (λ i g h. bit-mod y (suc m) i h ∙ (let e : bit (notW y) i ≡ 1 = ap (bit (notW y)) (omega arith) ∙ one in omega (arith, bit-not y i hy (omega arith))))
+
+-- and the XOR with ones up to m adds 1 to it
+pub next-by-mask : (y m : ℕ) → y % 2 ^ suc m ≡ 2 ^ m - 1 → xorW y (2 ^ suc m - 1) ≡ y + 1
+next-by-mask y m e =
+    let s : xorW y (2 ^ suc m - 1) + andW y (2 ^ suc m - 1) * 2 ≡ y + (2 ^ suc m - 1) = xor-and-sum y (2 ^ suc m - 1) in
+    let a : andW y (2 ^ suc m - 1) ≡ 2 ^ m - 1 = and-low y (suc m) ∙ e in
+    let p : 2 ^ suc m ≡ 2 ^ m * 2 = pow-suc 2 m in
+    let q : 0 < 2 ^ m = pow-pos m in
+    omega arith
+
+-- ---- y + 1, for y with its lowest zero at m
 module _ (y F m : ℕ) (hy : y < 2 ^ 64) (hF : F < 2 ^ 64) (hm : m < 64) (one : bit (notW y) m ≡ 1) (none : (i : ℕ) → i < m → bit (notW y) i ≡ 0) where
   filled : Run m 1 (runOf (notW y) F) (orOf (notW y) F)
   filled =
       six (Run m) (run-carries m hm) (notW y) F (not-lt y) hF
       (none, λ a h. let e : m + a * 64 ≡ m = omega arith in ap (bit (notW y)) e ∙ one)
 
-  mask : notW (shlW (runOf (notW y) F) 1) ≡ 2 ^ suc m - 1
-  mask = ones-by-bits 64 (suc m) (notW (shlW R 1)) hm (not-lt (shlW R 1)) below above
-    where
-      R : ℕ
-      R = runOf (notW y) F
-
-      shifted : (i : ℕ) → suc i < 64 → bit (notW (shlW R 1)) (suc i) ≡ 1 - bit R i
-      shifted i h = bit-not (shlW R 1) (suc i) (shl-lt R 1) h ∙ ap (λ (x : ℕ). 1 - x) (ap (bit (shlW R 1)) (sym (one-add i)) ∙ bit-shl R 1 i (omega arith))
-
-      below : (i : ℕ) → i < suc m → bit (notW (shlW R 1)) i ≡ 1
-      below zero h = bit-not (shlW R 1) 0 (shl-lt R 1) (omega arith) ∙ ap (λ (x : ℕ). 1 - x) (bit-shl-low R 1 0 (omega arith))
-      below (suc i) h = shifted i (omega arith) ∙ ap (λ (x : ℕ). 1 - x) (filled .0 i (omega arith))
-
-      above : (i : ℕ) → suc m ≤ i → i < 64 → bit (notW (shlW R 1)) i ≡ 0
-      above zero g h = absurd (omega arith)
-      above (suc i) g h =
-          let e : m + (i - m) * 1 ≡ i = omega arith in shifted i h ∙ ap (λ (x : ℕ). 1 - x) (ap (bit R) (sym e) ∙ filled .1 (i - m) (omega arith))
-
-  lows : y % 2 ^ suc m ≡ 2 ^ m - 1
-  lows =
-      ones-by-bits (suc m) m (y % 2 ^ suc m) (le-suc m) (mod-lt y (pow-pos (suc m)))
-      (λ i h. bit-mod y (suc m) i (omega arith) ∙ omega (arith, bit-not y i hy (omega arith), none i h))
-      (λ i g h. bit-mod y (suc m) i h ∙ (let e : bit (notW y) i ≡ 1 = ap (bit (notW y)) (omega arith) ∙ one in omega (arith, bit-not y i hy (omega arith))))
-
   raised : xorW y (notW (shlW (runOf (notW y) F) 1)) ≡ y + 1
   raised =
-      let s : xorW y (2 ^ suc m - 1) + andW y (2 ^ suc m - 1) * 2 ≡ y + (2 ^ suc m - 1) = xor-and-sum y (2 ^ suc m - 1) in
-      let a : andW y (2 ^ suc m - 1) ≡ 2 ^ m - 1 = and-low y (suc m) ∙ lows in
-      let p : 2 ^ suc m ≡ 2 ^ m * 2 = pow-suc 2 m in
-      let q : 0 < 2 ^ m = pow-pos m in
-      ap (xorW y) mask ∙ omega arith
+      let R : ℕ = runOf (notW y) F in
+      ap (xorW y)
+      (run-mask R m hm (filled .0) (λ i g h. let e : m + (i - m) * 1 ≡ i = omega arith in ap (bit R) (sym e) ∙ filled .1 (i - m) (omega arith)))
+      ∙ next-by-mask y m (lowest-zero y m hy hm one none)
 
 pub raise : (y F : ℕ) → y < 2 ^ 64 - 1 → F < 2 ^ 64 → xorW y (notW (shlW (runOf (notW y) F) 1)) ≡ y + 1
 raise y F hy hF =

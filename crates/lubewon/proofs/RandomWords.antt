@@ -1,0 +1,125 @@
+-- The tape words that calls on shares report, from the figures of the plans' own words: a call that is done reports what it needs.
+-- Rests on plans' Cost and BuiltIns, on complex' Tape and Called, and on checks' Passed.
+use mathlib.Core.Path.{_≡_, refl, ap, ap₂, _∙_}
+use mathlib.Core.Bool.{Bool, true, false, not, _&&_}
+use mathlib.Core.List.{List}
+use Prim.Native.Nat.{ℕ, _+_, _-_, _*_, _≤_}
+use native.Mathlib.Nat.{le-trans, le-of-eq, mul-le-mul-right}
+use native.Mathlib.Omega.{arith}
+use lib.Dec.{T, leb, leb→le, ltb, eqb}
+use lib.ListN.{length}
+use borrow.Author.Tests.{not-false}
+use Rattle.word.specs.Layout.{isShareCount}
+use Rattle.word.proofs.Small.{share-range}
+use Rattle.checks.specs.declared.answer.Answer.{Answer}
+use Rattle.checks.specs.Answers.{done, refused, given}
+use Rattle.checks.proofs.Passed.{passed}
+use Rattle.masking.specs.Foretold.{foretoldTape}
+use Rattle.binary64.specs.Operations.{Operation, Product, Sum, Floor, Truncate, Nearest}
+use Rattle.plans.specs.BuiltIns.{described, planOf}
+use Rattle.plans.proofs.BuiltIns.{built-ins}
+use Rattle.plans.proofs.Cost.{by-words}
+use Rattle.execution.specs.Shares.{answerFor, callAnswer}
+use Rattle.complex.specs.Calls.{complexTape, complexAnswer, layerTape, layerAnswer}
+use Rattle.complex.specs.Layer.{isLayer, blockCount}
+use Rattle.complex.proofs.Called.{answer-done}
+use Rattle.complex.proofs.Tape.{complex-units, layer-units}
+use Rattle.lubewon.specs.RandomWords.{timesOf, Takes, RandomWords}
+
+-- ---- an answer that is done is what stands after the turn-downs
+next-is : (b : Bool) (k : ℕ) (next : Answer) → (k ≡ 0 → ⊥) → given b (refused k) next .number ≡ 0 → given b (refused k) next ≡ next
+next-is true k next f z = absurd (f z)
+next-is false k next f z = refl
+
+-- turned down by 1 where the share count is none
+shares-are : (n : ℕ) (next : Answer) → given (not (isShareCount n)) (refused 1) next .number ≡ 0 → (2 ≤ n) × (n ≤ 8)
+shares-are n next z = share-range n (not-false (isShareCount n) (passed (not (isShareCount n)) (refused 1) next (λ e. omega arith) z .0))
+
+-- three turn-downs before `done 0 needed`
+after-three : (b₁ b₂ b₃ : Bool) (k₁ k₂ k₃ needed : ℕ) → (k₁ ≡ 0 → ⊥) → (k₂ ≡ 0 → ⊥) → (k₃ ≡ 0 → ⊥)
+    → given b₁ (refused k₁) (given b₂ (refused k₂) (given b₃ (refused k₃) (done 0 needed))) .number ≡ 0
+    → given b₁ (refused k₁) (given b₂ (refused k₂) (given b₃ (refused k₃) (done 0 needed))) ≡ done 0 needed
+after-three true b₂ b₃ k₁ k₂ k₃ needed e f g z = absurd (e z)
+after-three false true b₃ k₁ k₂ k₃ needed e f g z = absurd (f z)
+after-three false false true k₁ k₂ k₃ needed e f g z = absurd (g z)
+after-three false false false k₁ k₂ k₃ needed e f g z = refl
+
+operation-done : (needed n other result work tape : ℕ) → answerFor needed n other result work tape .number ≡ 0
+    → (answerFor needed n other result work tape ≡ done 0 needed) × (2 ≤ n) × (n ≤ 8)
+unfolding answerFor
+operation-done needed n other result work tape z =
+    let b₁ : Bool = not (isShareCount n) in
+    let b₄ : Bool = not (eqb other n && (eqb result n && eqb work 512)) in
+    let s = shares-are n (given b₄ (refused 4) (given (ltb tape needed) (refused 6) (done 0 needed))) z in
+    (after-three b₁ b₄ (ltb tape needed) 1 4 6 needed (λ e. omega arith) (λ e. omega arith) (λ e. omega arith) z, s .0, s .1)
+
+complex-done : (n x y result work tape : ℕ) → complexAnswer n x y result work tape .number ≡ 0
+    → (complexAnswer n x y result work tape ≡ done 0 (complexTape n)) × (2 ≤ n) × (n ≤ 8)
+unfolding complexAnswer
+complex-done n x y result work tape z =
+    let b₁ : Bool = not (isShareCount n) in
+    let b₄ : Bool = not (eqb x (2 * n) && (eqb y (2 * n) && (eqb result (2 * n) && eqb work 512))) in
+    let b₆ : Bool = ltb tape (complexTape n) in
+    let s = shares-are n (given b₄ (refused 4) (given b₆ (refused 6) (done 0 (complexTape n)))) z in
+    (after-three b₁ b₄ b₆ 1 4 6 (complexTape n) (λ e. omega arith) (λ e. omega arith) (λ e. omega arith) z, s .0, s .1)
+
+layer-done : (n N h numbers factors work tape : ℕ) → layerAnswer n N h numbers factors work tape .number ≡ 0
+    → (layerAnswer n N h numbers factors work tape ≡ done 0 (layerTape n N)) × (2 ≤ n) × (n ≤ 8)
+unfolding layerAnswer
+layer-done n N h numbers factors work tape z =
+    let b₁ : Bool = not (isShareCount n) in
+    let b₇ : Bool = not (isLayer N h) in
+    let b₄ : Bool = not (eqb numbers (2 * N * n) && (eqb factors (2 * blockCount N h) && eqb work 512)) in
+    let b₆ : Bool = ltb tape (layerTape n N) in
+    let rest : Answer = given b₇ (refused 7) (given b₄ (refused 4) (given b₆ (refused 6) (done 0 (layerTape n N)))) in
+    let s = shares-are n rest z in
+    let p₁ = passed b₁ (refused 1) rest (λ e. omega arith) z in
+    (next-is b₁ 1 rest (λ e. omega arith) z ∙ after-three b₇ b₄ b₆ 7 4 6 (layerTape n N) (λ e. omega arith) (λ e. omega arith) (λ e. omega arith) (p₁ .1), s .0, s .1)
+
+-- ---- an operation by its figures
+takes : (o : Operation) (times ceiling : ℕ) → timesOf (planOf o) ≡ times → T (leb times ceiling) → described o .ands + 12 * described o .adds ≡ times → Takes o times ceiling
+takes o times ceiling c l e =
+    record {
+      counted = c;
+      foretold = foretold;
+      reported = reported;
+      below = λ x y result work tape z. le-trans (le-of-eq (reported x y result work tape z)) (mul-le-mul-right (length x * (length x - 1)) (leb→le times ceiling l));
+      shares = λ x y result work tape z. let d = is-done x y result work tape z in (d .1, d .2);
+      enough =
+          λ x y result work tape least most hy hr hw fits. let f = foretold (length x) least most in
+          ap (λ (k : ℕ). answerFor k (length x) (length y) (length result) (length work) (length tape)) f
+          ∙ answer-done (times * (length x * (length x - 1))) (length x) (length y) (length result) (length work) (length tape) least most hy hr hw fits;
+    }
+  where
+    foretold : (n : ℕ) → 2 ≤ n → n ≤ 8 → foretoldTape n (planOf o) ≡ times * (n * (n - 1))
+    foretold n a b = built-ins o .figures .tape-is n a b ∙ ap (λ (k : ℕ). k * (n * (n - 1))) e
+
+    is-done : (x y result work tape : List ℕ) → callAnswer (planOf o) x y result work tape .number ≡ 0
+        → (callAnswer (planOf o) x y result work tape ≡ done 0 (foretoldTape (length x) (planOf o))) × (2 ≤ length x) × (length x ≤ 8)
+    is-done x y result work tape z = operation-done (foretoldTape (length x) (planOf o)) (length x) (length y) (length result) (length work) (length tape) z
+
+    reported : (x y result work tape : List ℕ) → callAnswer (planOf o) x y result work tape .number ≡ 0
+        → callAnswer (planOf o) x y result work tape .tape ≡ times * (length x * (length x - 1))
+    reported x y result work tape z =
+        let d = is-done x y result work tape z in ap (λ (a : Answer). a .tape) (d .0) ∙ foretold (length x) (d .1) (d .2)
+
+-- counted in the plan's own words
+counted : (o : Operation) → timesOf (planOf o) ≡ described o .ands + 12 * described o .adds
+counted o = ap₂ (λ (i j : ℕ). i + 12 * j) (built-ins o .figures .ands-are) (built-ins o .figures .adds-are)
+
+pub random-words : RandomWords
+random-words =
+    record {
+      by-words = by-words;
+      product = takes Product _ _ (counted Product) tt refl;
+      sum = takes Sum _ _ (counted Sum) tt refl;
+      floor = takes Floor _ _ (counted Floor) tt refl;
+      truncate = takes Truncate _ _ (counted Truncate) tt refl;
+      nearest = takes Nearest _ _ (counted Nearest) tt refl;
+      complex =
+          λ n x y result work tape z. let d = complex-done n (length x) (length y) (length result) (length work) (length tape) z in
+          ap (λ (a : Answer). a .tape) (d .0) ∙ complex-units n (d .1) (d .2);
+      layer =
+          λ n N h numbers factors work tape z. let d = layer-done n N h (length numbers) (length factors) (length work) (length tape) z in
+          ap (λ (a : Answer). a .tape) (d .0) ∙ layer-units n (d .1) (d .2) N;
+    }
