@@ -36,10 +36,12 @@ twoShares c r r' b₀ b₁ a₀ a₁ d₀ d₁ =
     let k = set c 256 r in
     let y₁ = xorW (getD k b₁ 0) r in
     let y₀ = xorW (getD k b₀ 0) r in
-    let s = xorW r' (andW (getD k a₀ 0) y₁) in
-    let x = getD (set k 272 s) a₁ 0 in
-    let w = xorW s (andW x y₀) in
-    set (set (set (set k 272 s) 272 w) d₁ (xorW (andW x y₁) w)) d₀ (xorW (andW (getD k a₀ 0) y₀) r')
+    let x₁ = getD k a₁ 0 in
+    let x₀ = getD k a₀ 0 in
+    let s = xorW r' (andW x₀ y₁) in
+    let w = xorW s (andW x₁ y₀) in
+    let e = xorW (andW x₁ y₁) w in
+    set (set (set (set (set (set k 272 s) 273 w) 272 r) d₁ e) 272 (xorW e r)) d₀ (xorW (andW x₀ y₀) r')
 
 module _ (A B D : Place) (RA : Register A) (RB : Register B) (RD : Register D) (tape c : List ℕ) (t : ℕ) (size : length c ≡ 512) (words : (k : ℕ) → getD c k 0 < 2 ^ 64) (fits : (k : ℕ) → getD tape k 0 < 2 ^ 64) where
   other : (P : Place) → Register P → (i : ℕ) → i < 8 → Other (at P i)
@@ -158,18 +160,22 @@ module _ (A B D : Place) (RA : Register A) (RB : Register B) (RD : Register D) (
       stays ks (at D 1) v₁ (set (stored ws c) (at D 0) v₀) (away 1 (omega arith))
       ∙ ap (λ (l : List ℕ). set l (at D 1) v₁) (stays ks (at D 0) v₀ (stored ws c) (away 0 (omega arith)) ∙ ap (λ (l : List ℕ). set l (at D 0) v₀) (forgets ks ws c m))
 
-  -- what is in y_0, and t's two values
+  -- what is in y_0, t and u
   abbrev inY : Stores
   inY = put 256 r none
 
+  abbrev before : Stores
+  before = put 272 r (put 273 w (put 272 (xorW r' (andW a₀ y₁)) inY))
+
   abbrev inT : Stores
-  inT = put 272 w (put 272 (xorW r' (andW a₀ y₁)) inY)
+  inT = put 272 (xorW v₁ r) before
 
   abbrev byLoads : ℕ → ℕ → ℕ → ℕ → List ℕ
   byLoads u v x z =
       let s = xorW r' (andW x (xorW v r)) in
       let m = xorW s (andW z (xorW u r)) in
-      set (set (set (set (stored inY c) 272 s) 272 m) (at D 1) (xorW (andW z (xorW v r)) m)) (at D 0) (xorW (andW x (xorW u r)) r')
+      let e = xorW (andW z (xorW v r)) m in
+      set (set (set (set (set (set (stored inY c) 272 s) 273 m) 272 r) (at D 1) e) 272 (xorW e r)) (at D 0) (xorW (andW x (xorW u r)) r')
 
   kept : (P : Place) → Register P → (i : ℕ) → i < 8 → getD (stored inY c) (at P i) 0 ≡ getD c (at P i) 0
   kept P R i h = getD-set-other c 256 (at P i) r 0 (R .away i 256 h (omega arith) (omega arith))
@@ -179,13 +185,12 @@ module _ (A B D : Place) (RA : Register A) (RB : Register B) (RD : Register D) (
 
   code-kept : twoShares c r r' (at B 0) (at B 1) (at A 0) (at A 1) (at D 0) (at D 1) ≡ set (set (stored inT c) (at D 0) v₀) (at D 1) v₁
   code-kept =
-      let s = xorW r' (andW (getD (stored inY c) (at A 0) 0) (xorW (getD (stored inY c) (at B 1) 0) r)) in
-      let last : getD (set (stored inY c) 272 s) (at A 1) 0 ≡ a₁ = getD-set-other (stored inY c) 272 (at A 1) s 0 (RA .away 1 272 (omega arith) (omega arith) (omega arith)) ∙ kept A RA 1 (omega arith) in
-      (λ i. byLoads (kept B RB 0 (omega arith) i) (kept B RB 1 (omega arith) i) (kept A RA 0 (omega arith) i) (last i))
+      (λ i. byLoads (kept B RB 0 (omega arith) i) (kept B RB 1 (omega arith) i) (kept A RA 0 (omega arith) i) (kept A RA 1 (omega arith) i))
+      ∙ ap (λ (l : List ℕ). set l (at D 0) v₀) (set-comm (stored before c) (at D 1) 272 v₁ (xorW v₁ r) (RD .away 1 272 (omega arith) (omega arith) (omega arith)))
       ∙ set-comm (stored inT c) (at D 1) (at D 0) v₁ v₀ distinct
 
   same-zeros : zeroed ks (twoShares c r r' (at B 0) (at B 1) (at A 0) (at A 1) (at D 0) (at D 1)) ≡ zeroed ks after
-  same-zeros = ap (zeroed ks) code-kept ∙ stays-out inT (tt, (tt, (tt, tt))) ∙ sym (stays-out afterCross (tt, (tt, (tt, (tt, (tt, (tt, (tt, (tt, tt)))))))))
+  same-zeros = ap (zeroed ks) code-kept ∙ stays-out inT (tt, (tt, (tt, (tt, (tt, tt))))) ∙ sym (stays-out afterCross (tt, (tt, (tt, (tt, (tt, (tt, (tt, (tt, tt)))))))))
 
   -- over the cells' numbers as the code has them
   pub two-done : (b₀' b₁' a₀' a₁' d₀' d₁' : ℕ) → b₀' ≡ at B 0 → b₁' ≡ at B 1 → a₀' ≡ at A 0 → a₁' ≡ at A 1 → d₀' ≡ at D 0 → d₁' ≡ at D 1

@@ -10,8 +10,7 @@ use conjunction::helpers::and_helpers_3_to_8;
 use conjunction::registers::and_3_to_8;
 use gadgets::once::Place;
 
-// Three shares and more. One function for both families, called from both: the compiler would put one that is called once into its caller, which would
-// then save registers for two shares too.
+// Three shares and more, for both families: in a program that has both it stays a function of its own, and AND on two shares need not save registers for it.
 fn and_more(
     d: Place,
     a: usize,

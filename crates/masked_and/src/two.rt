@@ -5,6 +5,7 @@ ghost use Rattle.masking.specs.Translation.{andBlock, scratch};
 ghost use Rattle.gadgets.specs.Effects.{Enough, Ran, Register, at, placed};
 use gadgets::once::Place;
 use gadgets::scratch::T;
+use gadgets::scratch::U;
 use gadgets::scratch::Y;
 use gadgets::wipe::wipe;
 
@@ -22,22 +23,26 @@ pub(crate) fn and_2(
     requires { ⌜ Enough (now tape) t (andBlock scratch 2 (at d) (at (placed a over)) (at (placed b over))) ⌝ }
     ensures { λ r. ⌜ Ran (andBlock scratch 2 (at d) (at (placed a over)) (at (placed b over))) (now (tape .entry)) t (now (cells .entry)) (now (cells .exit)) r ⌝ }
 {
-    // Not to be reordered (tests/leakage): the tape's word is stored, so that it is in a register before b's share 0 meets it there, and no share is loaded over
-    // another; s is stored before a's share 1 is loaded, and the tape's other word read again after w is stored; share 1 of d before share 0, which the run
-    // behind begins with.
+    // Not to be reordered (tests/leakage). The tape's word is stored, so that it is in a register before b's share 0 meets it there, and no share is loaded over
+    // another. Between two stores to a cell a tape word is read, which may lie there for all that the compiler knows, so that it keeps the first: s and w stay
+    // words of their own. In the register of s the tape's word stays behind, in that of share 1 of d the two together, since the run behind begins with share 0.
     let r = tape[t];
     cells[Y] = r;
     let y1 = cells[b + over] ^ tape[t];
     let y0 = cells[b] ^ r;
+    let a1 = cells[a + over];
+    let v = a1 & y1;
     let a0 = cells[a];
     let s = tape[t + 1] ^ (a0 & y1);
     cells[T] = s;
-    let a1 = cells[a + over];
     let w = s ^ (a1 & y0);
-    cells[T] = w;
+    cells[U] = w;
+    cells[T] = tape[t];
     let p = d.base;
     let q = p + d.stride;
-    cells[q] = (a1 & y1) ^ w;
+    let d1 = v ^ w;
+    cells[q] = d1;
+    cells[T] = d1 ^ tape[t];
     cells[p] = (a0 & y0) ^ tape[t + 1];
     wipe(2, cells);
     t + 2
