@@ -56,8 +56,8 @@ extern "C" {
 #endif
 
 /* The number grows by one with every change of the calls. */
-#define LUBEWON_VERSION "0.13"
-#define LUBEWON_VERSION_NUMBER 13
+#define LUBEWON_VERSION "0.14"
+#define LUBEWON_VERSION_NUMBER 14
 
 /* Turn-downs. */
 enum {
@@ -85,19 +85,19 @@ enum {
 #define LUBEWON_CELL(i, r) (32 * (i) + (r))
 
 /* The words of the built-in plans, and the tape words that an operation takes on n shares. */
-#define LUBEWON_PRODUCT_PLAN 810
-#define LUBEWON_SUM_PLAN 300
+#define LUBEWON_PRODUCT_PLAN 948
+#define LUBEWON_SUM_PLAN 738
 #define LUBEWON_FLOOR_PLAN 297
 #define LUBEWON_TRUNCATE_PLAN 169
 #define LUBEWON_NEAREST_PLAN 301
-#define LUBEWON_PRODUCT_TAPE(n) (89 * (n) * ((n) - 1))
-#define LUBEWON_SUM_TAPE(n) (81 * (n) * ((n) - 1))
+#define LUBEWON_PRODUCT_TAPE(n) (76 * (n) * ((n) - 1))
+#define LUBEWON_SUM_TAPE(n) (53 * (n) * ((n) - 1))
 #define LUBEWON_FLOOR_TAPE(n) (12 * (n) * ((n) - 1))
 #define LUBEWON_TRUNCATE_TAPE(n) (5 * (n) * ((n) - 1))
 #define LUBEWON_NEAREST_TAPE(n) (14 * (n) * ((n) - 1))
 /* The complex product is four products and two sums; a layer over count numbers, for each of its count / 2 pairs, a complex product and four sums. */
-#define LUBEWON_COMPLEX_TAPE(n) (518 * (n) * ((n) - 1))
-#define LUBEWON_LAYER_TAPE(n, count) ((count) / 2 * 842 * (n) * ((n) - 1))
+#define LUBEWON_COMPLEX_TAPE(n) (410 * (n) * ((n) - 1))
+#define LUBEWON_LAYER_TAPE(n, count) ((count) / 2 * 622 * (n) * ((n) - 1))
 /* Split: n - 1. */
 #define LUBEWON_SPLIT_TAPE(n) ((n) - 1)
 
@@ -229,8 +229,8 @@ lubewon_answer lubewon_complex_product_shares(size_t n, const uint64_t *x, size_
  *       at += a.tape;
  *   }
  *
- * A call's tape is lent as a whole: 215,552 words for N = 256 on two shares. Where that is too much, copy each pair, by rising p, to 4n words and
- * back, and call the layer on it with N = 2, h = 1 and its factor: 1,684 words at a time on two shares. The shares were the same over the same tape
+ * A call's tape is lent as a whole: 159,232 words for N = 256 on two shares. Where that is too much, copy each pair, by rising p, to 4n words and
+ * back, and call the layer on it with N = 2, h = 1 and its factor: 1,244 words at a time on two shares. The shares were the same over the same tape
  * words in every test; what is proved of secrecy is then proved of each pair by itself. */
 lubewon_answer lubewon_layer_shares(size_t n, size_t count, size_t distance, uint64_t *numbers, size_t numbers_len, const uint64_t *factors,
                                     size_t factors_len, uint64_t *work, size_t work_len, const uint64_t *tape, size_t tape_len);

@@ -5,7 +5,7 @@
 #include <sys/random.h>
 
 int main(void) {
-    static uint64_t tape[8192];                            /* fresh random words: a product on three shares takes 534 */
+    static uint64_t tape[8192];                            /* fresh random words: a product on three shares takes 456 */
     uint64_t x[3], y[3], result[3], work[512];
     if (getrandom(tape, sizeof tape, 0) != (ssize_t)sizeof tape) return 1;
     lubewon_split(0x3FF8000000000000, tape, 2, x, 3);      /* 1.5 in three shares, */

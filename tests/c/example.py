@@ -9,6 +9,6 @@ lib.lubewon_product_shares.restype, lib.lubewon_split.restype, lib.lubewon_join.
 size, x, y, result, work = ctypes.c_size_t, words(3), words(3), words(3), words(512)
 for shares in (x, y):
     lib.lubewon_split(ctypes.c_uint64(0x3FF8000000000000), words(2), size(2), shares, size(3))
-answer = lib.lubewon_product_shares(x, size(3), y, size(3), result, size(3), work, size(512), words(534), size(534))
-assert answer.number == 0 and answer.tape == 534
+answer = lib.lubewon_product_shares(x, size(3), y, size(3), result, size(3), work, size(512), words(456), size(456))
+assert answer.number == 0 and answer.tape == 456
 print(struct.unpack("<d", struct.pack("<Q", lib.lubewon_join(result, size(3)).word))[0])

@@ -4,7 +4,7 @@ use Prim.Native.Nat.{ℕ, _+_, _-_, _*_, _%_, _^_, _<_}
 use native.Mathlib.Nat.{mod-eq-of-lt, mul-zero, mul-one}
 use native.Mathlib.Omega.{arith}
 use lib.Bits as Bits
-use Rattle.bits.specs.Ops.{xorW, andW, notW, spreadW}
+use Rattle.bits.specs.Ops.{xorW, andW, spreadW}
 use Rattle.bits.proofs.Digits.{digit, bit-lt}
 use Rattle.bits.proofs.Xor.{xor-zero-l, xor-cancel-r, and-zero}
 use Rattle.bits.proofs.Bound.{xor-lt}
@@ -18,12 +18,6 @@ pub and-spread : (x y : ℕ) → x < 2 ^ 64 → andW x (spreadW y) ≡ x * (y % 
 unfolding spreadW
 and-spread x y h =
     digit (λ b. andW x (b * (2 ^ 64 - 1)) ≡ x * b) (and-zero x ∙ sym (mul-zero x)) (and-ones x h ∙ sym (mul-one x)) (y % 2) (bit-lt y)
-
--- x where y is even, else 0
-pub and-not-spread : (x y : ℕ) → x < 2 ^ 64 → andW x (notW (spreadW y)) ≡ x * (1 - y % 2)
-unfolding spreadW notW
-and-not-spread x y h =
-    digit (λ b. andW x ((2 ^ 64 - 1) - b * (2 ^ 64 - 1)) ≡ x * (1 - b)) (and-ones x h ∙ sym (mul-one x)) (and-zero x ∙ sym (mul-zero x)) (y % 2) (bit-lt y)
 
 -- p where y is odd, else q
 pub select : (p q y : ℕ) → p < 2 ^ 64 → q < 2 ^ 64 → xorW (andW (xorW p q) (spreadW y)) q ≡ p * (y % 2) + q * (1 - y % 2)

@@ -12,7 +12,7 @@ use lib.Pow as Pow
 use lib.Pow.{pow-pos, pow-add, pow-mono, shr-shr, shl-shr, mod-mod-pow, ones-split, ones-lt}
 use Rattle.bits.specs.Ops.{xorW, andW, notW, shlW, shrW, addW}
 use Rattle.bits.proofs.Digits.{digit, bit-lt, bit, xor-odd, and-odd, ext-half}
-use Rattle.bits.proofs.Xor.{xor-self, xor-zero-l, xor-cancel-r, not-xor}
+use Rattle.bits.proofs.Xor.{xor-zero-l, xor-cancel-r, not-xor}
 use Rattle.bits.proofs.Shift.{shr-xor}
 
 -- ---- the operations as arithmetic
@@ -118,10 +118,7 @@ bit-not a i h l =
     ap (λ (x : ℕ). bit x i) (not-xor a h) ∙ bit-xor a (2 ^ 64 - 1) i ∙ ap (differ (bit a i)) (ones-bit i l)
     ∙ digit (λ b. differ b 1 ≡ 1 - b) refl refl (bit a i) (bit-lt (a / 2 ^ i))
 
--- ---- two words are equal exactly where their XOR is 0
-pub xor-same : (a b : ℕ) → a ≡ b → xorW a b ≡ 0
-xor-same a b e = ap (λ (x : ℕ). xorW x b) e ∙ xor-self b
-
+-- ---- two words are equal where their XOR is 0
 pub same-xor : (a b : ℕ) → xorW a b ≡ 0 → a ≡ b
 same-xor a b e = sym (xor-cancel-r a b) ∙ ap (λ (x : ℕ). xorW x b) e ∙ xor-zero-l b
 

@@ -37,18 +37,18 @@ pairs-tape n N h factors (suc k) =
 pub layer-calls : (n N h : ℕ) (factors : List ℕ) → tapeFor n (layerActs N h factors) ≡ layerTape n N
 layer-calls n N h factors = pairs-tape n N h factors (N / 2)
 
--- in units of n(n − 1): 89 for a product, 81 for a sum
+-- in units of n(n − 1): 76 for a product, 53 for a sum
 module _ (n : ℕ) (least : 2 ≤ n) (most : n ≤ 8) where
-  units : (P S q : ℕ) → P ≡ 89 * q → S ≡ 81 * q → (4 * P + 2 * S ≡ 518 * q) × (4 * P + 6 * S ≡ 842 * q)
+  units : (P S q : ℕ) → P ≡ 76 * q → S ≡ 53 * q → (4 * P + 2 * S ≡ 410 * q) × (4 * P + 6 * S ≡ 622 * q)
   units P S q e f = (omega arith, omega arith)
 
-  both : (complexTape n ≡ 518 * (n * (n - 1))) × (4 * foretoldTape n productPlan + 6 * foretoldTape n sumPlan ≡ 842 * (n * (n - 1)))
+  both : (complexTape n ≡ 410 * (n * (n - 1))) × (4 * foretoldTape n productPlan + 6 * foretoldTape n sumPlan ≡ 622 * (n * (n - 1)))
   both =
       units (foretoldTape n productPlan) (foretoldTape n sumPlan) (n * (n - 1)) (built-ins Product .figures .tape-is n least most)
       (built-ins Sum .figures .tape-is n least most)
 
-  pub complex-units : complexTape n ≡ 518 * (n * (n - 1))
+  pub complex-units : complexTape n ≡ 410 * (n * (n - 1))
   complex-units = both .0
 
-  pub layer-units : (N : ℕ) → layerTape n N ≡ N / 2 * (842 * (n * (n - 1)))
+  pub layer-units : (N : ℕ) → layerTape n N ≡ N / 2 * (622 * (n * (n - 1)))
   layer-units N = ap (λ (k : ℕ). N / 2 * k) (both .1)

@@ -64,7 +64,7 @@ pub record ComplexHolds : Type 0 where
       → let a = xorAll (numberOf n 2 0 x) in let b = xorAll (numberOf n 2 1 x) in let c = xorAll (numberOf n 2 0 y) in let d = xorAll (numberOf n 2 1 y) in
       joinedWords n 2 (complexResult n x y result work tape) ≡ complexRe a b c d ∷ complexIm a b c d ∷ []
   -- its tape words are those of its calls; from the plans' own ANDs and ADDs
-  pub tape : (n : ℕ) → 2 ≤ n → n ≤ 8 → (tapeFor n complexActs ≡ complexTape n) × (complexTape n ≡ 518 * (n * (n - 1)))
+  pub tape : (n : ℕ) → 2 ≤ n → n ≤ 8 → (tapeFor n complexActs ≡ complexTape n) × (complexTape n ≡ 410 * (n * (n - 1)))
   pub secret : (n : ℕ) → 2 ≤ n → n ≤ 8 → (o : Operation) (step : ℕ) → step < length (program n (planOf o)) → ComplexSecret n o step
 
 -- ---- a layer
@@ -87,7 +87,7 @@ pub record LayerHolds : Type 0 where
       → layerCallAnswer n N h numbers factors work tape .number ≡ 0
       → joinedWords n (2 * N) (layerNumbers n N h numbers factors work tape) ≡ plainNumbers N h (joinedWords n (2 * N) numbers) factors
   pub tape : (n N h : ℕ) (factors : List ℕ) → 2 ≤ n → n ≤ 8
-      → (tapeFor n (layerActs N h factors) ≡ layerTape n N) × (layerTape n N ≡ N / 2 * (842 * (n * (n - 1))))
+      → (tapeFor n (layerActs N h factors) ≡ layerTape n N) × (layerTape n N ≡ N / 2 * (622 * (n * (n - 1))))
   pub secret : (n : ℕ) → 2 ≤ n → n ≤ 8 → (o : Operation) (step : ℕ) → step < length (program n (planOf o)) → LayerSecret n o step
 
 pub record Transforms : Type 0 where

@@ -239,7 +239,7 @@ module _ (C : Claims) where
   plan-tape = C .random-words .by-words
 
   product-tape : (x y result work tape : List ℕ) → callAnswer productPlan x y result work tape .number ≡ 0
-      → callAnswer productPlan x y result work tape .tape ≡ 89 * (length x * (length x - 1))
+      → callAnswer productPlan x y result work tape .tape ≡ 76 * (length x * (length x - 1))
   product-tape = C .random-words .product .reported
 
   product-ceiling : (x y result work tape : List ℕ) → callAnswer productPlan x y result work tape .number ≡ 0
@@ -247,7 +247,7 @@ module _ (C : Claims) where
   product-ceiling = C .random-words .product .below
 
   sum-tape : (x y result work tape : List ℕ) → callAnswer sumPlan x y result work tape .number ≡ 0
-      → callAnswer sumPlan x y result work tape .tape ≡ 81 * (length x * (length x - 1))
+      → callAnswer sumPlan x y result work tape .tape ≡ 53 * (length x * (length x - 1))
   sum-tape = C .random-words .sum .reported
 
   sum-ceiling : (x y result work tape : List ℕ) → callAnswer sumPlan x y result work tape .number ≡ 0

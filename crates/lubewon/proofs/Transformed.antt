@@ -117,7 +117,7 @@ module _ (C : Claims) where
       joinedWords n 2 (complexResult n x y result work tape) ≡ sum (product a c) (flipped (product b d)) ∷ sum (product a d) (product b c) ∷ []
   complex-joins = C .transforms .complex .joins
 
-  complex-tape : (n : ℕ) → 2 ≤ n → n ≤ 8 → tapeFor n complexActs ≡ 518 * (n * (n - 1))
+  complex-tape : (n : ℕ) → 2 ≤ n → n ≤ 8 → tapeFor n complexActs ≡ 410 * (n * (n - 1))
   complex-tape n l m = let q = C .transforms .complex .tape n l m in q .0 ∙ q .1
 
   complex-secret : (n : ℕ) → 2 ≤ n → n ≤ 8 → (o : Operation) (step : ℕ) → step < length (program n (planOf o))
@@ -161,7 +161,7 @@ module _ (C : Claims) where
       (drop (4 * P + 5 * S) tape)
   pair-minus n tape s N h re im p some inside = C .on-shares-means .pair n tape s N h re im p some inside .minus-im
 
-  layer-tape : (n N h : ℕ) (factors : List ℕ) → 2 ≤ n → n ≤ 8 → tapeFor n (layerActs N h factors) ≡ N / 2 * (842 * (n * (n - 1)))
+  layer-tape : (n N h : ℕ) (factors : List ℕ) → 2 ≤ n → n ≤ 8 → tapeFor n (layerActs N h factors) ≡ N / 2 * (622 * (n * (n - 1)))
   layer-tape n N h factors l m = let q = C .transforms .layer .tape n N h factors l m in q .0 ∙ q .1
 
   layer-secret : (n : ℕ) → 2 ≤ n → n ≤ 8 → (o : Operation) (step : ℕ) → step < length (program n (planOf o))

@@ -37,14 +37,14 @@ pub record Takes (o : Operation) (times ceiling : ℕ) : Type 0 where
 pub record RandomWords : Type 0 where
   -- "from the plans' own words": so for every plan
   pub by-words : (n : ℕ) (plan : List ℕ) → 2 ≤ n → n ≤ 8 → foretoldTape n plan ≡ timesOf plan * (n * (n - 1))
-  pub product : Takes Product 89 1000
-  pub sum : Takes Sum 81 600
+  pub product : Takes Product 76 1000
+  pub sum : Takes Sum 53 600
   pub floor : Takes Floor 12 400
   -- the request names no ceiling for these two; floor's holds for them
   pub truncate : Takes Truncate 5 400
   pub nearest : Takes Nearest 14 400
   -- what is built from them: four products and two sums, and four products and six sums for each of a layer's N/2 pairs, at any distance h
   pub complex : (n : ℕ) (x y result work tape : List ℕ) → complexCallAnswer n x y result work tape .number ≡ 0
-      → complexCallAnswer n x y result work tape .tape ≡ (4 * 89 + 2 * 81) * (n * (n - 1))
+      → complexCallAnswer n x y result work tape .tape ≡ (4 * 76 + 2 * 53) * (n * (n - 1))
   pub layer : (n N h : ℕ) (numbers factors work tape : List ℕ) → layerCallAnswer n N h numbers factors work tape .number ≡ 0
-      → layerCallAnswer n N h numbers factors work tape .tape ≡ N / 2 * ((4 * 89 + 6 * 81) * (n * (n - 1)))
+      → layerCallAnswer n N h numbers factors work tape .tape ≡ N / 2 * ((4 * 76 + 6 * 53) * (n * (n - 1)))

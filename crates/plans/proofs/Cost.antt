@@ -17,7 +17,7 @@ use Rattle.plans.proofs.Tests.{every, each}
 use Rattle.binary64.specs.Operations.{Product, Sum, Floor, Truncate, Nearest}
 use Rattle.plans.specs.Cost.{Figures, ofKind}
 use Rattle.plans.specs.BuiltIns.{Described, described}
-use Rattle.plans.specs.ProductPlan.{productHead, carryRow, productRow, productRows, withExponents, highHalf, normalise, sticky, tests, roundPack, choose, productEnd, productTail, productSteps, productPlan}
+use Rattle.plans.specs.ProductPlan.{productHead, carryRow, productRow, productRows, lastRows, productEnd, productTail, productSteps, productPlan}
 use Rattle.plans.specs.SumPlan.{sumPlan}
 use Rattle.plans.specs.FloorPlan.{floorPlan}
 use Rattle.plans.specs.TruncatePlan.{truncatePlan}
@@ -91,7 +91,7 @@ of-words d reads words ands adds = (
 )
 
 pub product-words : OfWords (described Product)
-unfolding productHead carryRow productRow productRows withExponents highHalf normalise sticky tests roundPack choose productEnd productTail productSteps productPlan put named row
+unfolding productHead carryRow productRow productRows lastRows productEnd productTail productSteps productPlan put named row
 product-words = of-words (described Product) tt refl refl refl
 
 pub sum-words : OfWords (described Sum)

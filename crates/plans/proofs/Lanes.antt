@@ -11,7 +11,7 @@ use Rattle.bits.proofs.Digits.{bit}
 use Rattle.bits.proofs.Xor.{and-assoc, and-comm}
 use Rattle.bits.proofs.Shift.{shr-shr′}
 use Rattle.bits.proofs.Bound.{and-lt, not-lt}
-use Rattle.bits.proofs.Places.{shr-and, bit-and, bit-shr, bit-not, xor-same, same-xor}
+use Rattle.bits.proofs.Places.{shr-and, bit-and, bit-shr, bit-not, same-xor}
 
 -- 1 where v is 0, else 0
 abbrev pub isZero : ℕ → ℕ
@@ -87,9 +87,6 @@ zeros16-bit w p h l =
     (runs-double 4 (andDown 2 (andDown 1 n)) w (runs-double 2 (andDown 1 n) w (runs-double 1 n w (runs-one w h)))) p l
 
 -- ---- a test whether two numbers are the same: their XOR is zero
-pub zero-same : (a b : ℕ) → a ≡ b → isZero (xorW a b) ≡ 1
-zero-same a b e = ap isZero (xor-same a b e)
-
 pub zero-differ : (a b : ℕ) → (a ≡ b → ⊥) → isZero (xorW a b) ≡ 0
 zero-differ a b n = go (xorW a b) (same-xor a b)
   where

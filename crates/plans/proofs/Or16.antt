@@ -1,21 +1,34 @@
 -- A word brought to 16 bits that are 0 only where the word was: NOT, AND with itself shifted right by 32 and by 16, NOT, and the 16 low bits.
--- Rests on bits' Bound and on Fields.
+-- Rests on bits' Bound and Places, and on Fields.
 use mathlib.Core.Path.{_≡_, refl, sym, ap, ap₂, _∙_, subst}
 use mathlib.Core.Logic.{inl, inr}
 use Prim.Native.Nat.{ℕ, zero, suc, _+_, _-_, _*_, _/_, _%_, _^_, _<_}
 use native.Mathlib.Nat.{mod-lt, mod-eq-of-lt, le-trans, le-of-eq, eq-or-lt-of-le, le-antisymm}
 use native.Mathlib.Omega.{arith}
 use lib.Bits as Bits
-use lib.Pow.{pow-pos, mod-pow-add, ones-split, le-ones}
+use lib.Pow.{pow-pos, split, mod-pow-add, ones-split, le-ones}
 use Rattle.bits.specs.Ops.{andW, notW, shlW, shrW}
-use Rattle.bits.proofs.Xor.{and-comm}
+use Rattle.bits.proofs.Xor.{and-comm, and-zero}
 use Rattle.bits.proofs.Bound.{and-le, and-lt, not-lt}
+use Rattle.bits.proofs.Places.{shr-is, and-block}
 use Rattle.plans.proofs.Lanes.{isZero, andDown}
 use Rattle.plans.proofs.Fields.{low-bits}
 use Rattle.plans.proofs.Shifts.{not-is}
 
 unfoldable pub or16 : ℕ → ℕ
 or16 w = shrW (shlW (notW (andDown 16 (andDown 32 (notW w)))) 48) 48
+
+-- only 32 places are left after the first of the ANDs
+pub down32 : (n : ℕ) → n < 2 ^ 64 → andDown 32 n ≡ andW (n % 2 ^ 32) (n / 2 ^ 32)
+down32 n h =
+    let hi : ℕ = n / 2 ^ 32 in
+    let lo : ℕ = n % 2 ^ 32 in
+    let e : hi ≡ 0 * 2 ^ 32 + hi = omega arith in
+    ap₂ andW (sym (split n 32)) (shr-is n 32 ∙ e) ∙ and-block 32 hi 0 lo hi (mod-lt n (pow-pos 32)) (omega arith)
+    ∙ ap (λ (z : ℕ). z * 2 ^ 32 + andW lo hi) (and-zero hi) ∙ omega arith
+
+pub down32-lt : (n : ℕ) → n < 2 ^ 64 → andDown 32 n < 2 ^ 32
+down32-lt n h = subst (λ (z : ℕ). z < 2 ^ 32) (sym (down32 n h)) (and-lt 32 (n % 2 ^ 32) (n / 2 ^ 32) (mod-lt n (pow-pos 32)))
 
 -- m ones after AND with the m bits above: they were ones too
 full-and : (m n : ℕ) → andDown m n % 2 ^ m ≡ 2 ^ m - 1 → n % 2 ^ (m + m) ≡ 2 ^ (m + m) - 1
@@ -31,14 +44,14 @@ full-and m n h =
     parts = unfold andW shrW in Bits.and-mod n (n / 2 ^ m) m
 
 module _ (w : ℕ) where
-  gathered : ℕ
+  unfoldable pub gathered : ℕ
   gathered = andDown 16 (andDown 32 (notW w))
 
   gathered-lt : gathered < 2 ^ 64
   unfolding gathered
   gathered-lt = and-lt 64 (andDown 32 (notW w)) (shrW (andDown 32 (notW w)) 16) (and-lt 64 (notW w) (shrW (notW w) 32) (not-lt w))
 
-  or16-is : or16 w ≡ 2 ^ 16 - 1 - gathered % 2 ^ 16
+  pub or16-is : or16 w ≡ 2 ^ 16 - 1 - gathered % 2 ^ 16
   unfolding or16 gathered
   or16-is =
       let h = gathered-lt in

@@ -43,11 +43,11 @@ next-of-one : xorW 1 (1023 * 2 ^ 52 + 1) ≡ 1023 * 2 ^ 52
 next-of-one = unfold xorW in refl
 
 -- the lowest bit of NOT
-not-odd : (w : ℕ) → w < 2 ^ 64 → notW w % 2 ≡ 1 - w % 2
+pub not-odd : (w : ℕ) → w < 2 ^ 64 → notW w % 2 ≡ 1 - w % 2
 not-odd w h = sym (bit-zero (notW w)) ∙ bit-not w 0 h (omega arith) ∙ ap (λ (v : ℕ). 1 - v) (bit-zero w)
 
 -- ---- whether one is added: b and one of the bits of F; where b is 0 F holds a bit
-added : (y F b : ℕ) → F < 2 ^ 64 → xorW (notW (orOf (notW y) F)) b % 2 ≡ differ (1 - min F 1) (b % 2)
+pub added : (y F b : ℕ) → F < 2 ^ 64 → xorW (notW (orOf (notW y) F)) b % 2 ≡ differ (1 - min F 1) (b % 2)
 added y F b h =
     let O : ℕ = orOf (notW y) F in
     xor-odd (notW O) b ∙ ap (λ (v : ℕ). differ v (b % 2)) (not-odd O (or-lt (notW y) F (not-lt y) h) ∙ ap (λ (w : ℕ). 1 - w) (any (notW y) F (not-lt y) h))
@@ -92,7 +92,7 @@ opposite b h = top (notW b) ∙ ap (λ (v : ℕ). v * 2 ^ 63) (not-odd b h)
     top : (w : ℕ) → shlW w 63 ≡ w % 2 * 2 ^ 63
     top w = omega arith
 
-decision : (r o : ℕ) → r < 2 → differ (1 - min ((1 - r) * 2 ^ 63 + o) 1) r ≡ r * min o 1
+pub decision : (r o : ℕ) → r < 2 → differ (1 - min ((1 - r) * 2 ^ 63 + o) 1) r ≡ r * min o 1
 decision r o hr = digit (λ r. differ (1 - min ((1 - r) * 2 ^ 63 + o) 1) r ≡ r * min o 1) none some r hr
   where
     none : differ (1 - min (1 * 2 ^ 63 + o) 1) 0 ≡ 0 * min o 1

@@ -24,8 +24,8 @@ abbrev entry : List ℕ → List ℕ → ℕ → ℕ → ℕ → Described
 entry plan operands words ands adds = record { plan = plan; operands = operands; words = words; ands = ands; adds = adds }
 
 abbrev pub described : Operation → Described
-described Product = entry productPlan (0 ∷ 1 ∷ []) 810 65 2
-described Sum = entry sumPlan (0 ∷ 1 ∷ []) 300 33 4
+described Product = entry productPlan (0 ∷ 1 ∷ []) 948 76 0
+described Sum = entry sumPlan (0 ∷ 1 ∷ []) 738 53 0
 described Floor = entry floorPlan (0 ∷ []) 297 12 0
 described Truncate = entry truncatePlan (0 ∷ []) 169 5 0
 described Nearest = entry nearestPlan (0 ∷ []) 301 14 0

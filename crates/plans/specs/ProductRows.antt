@@ -28,7 +28,7 @@ wordInRow q k = getD (rowWords 0) k 0 + cond (eqb k 0) q 0
 
 -- where the head ends, a row's words, and where the rows end
 abbrev pub headEnd : ℕ
-headEnd = 20
+headEnd = 13
 
 abbrev pub rowLength : ℕ
 rowLength = 13
@@ -55,5 +55,5 @@ pub record ByRows : Type 0 where
   -- so each word is made from the tables and the number of a row
   pub words : (i : ℕ) → i < length productPlan → getD productPlan i 0 ≡ productWord i
   -- and the tables are so much shorter
-  pub tables : tableWords ≡ 147
+  pub tables : tableWords ≡ 285
   pub fewer : tableWords + 256 ≤ length productPlan

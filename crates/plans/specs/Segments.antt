@@ -1,4 +1,4 @@
--- Runs of steps that stand several times in the built-in plans, over the registers that they use.
+-- Runs of steps that the built-in plans share, or that say one thing, over the registers that they use.
 -- Nothing here has to be believed: the words of the built-in plans are the team's choice (document 01), and what they compute is proved.
 use mathlib.Core.List.{List, [], _∷_}
 use Prim.Native.Nat.{ℕ}

@@ -13,7 +13,7 @@ use execution::operation::operation_answer;
 use execution::work::place;
 
 // The plan's tape words, in units of n(n-1).
-pub const UNITS: usize = 89;
+pub const UNITS: usize = 76;
 
 // The operands placed, over whatever the work slice held, and the plan's words on them: no other register is read before it is written.
 pub(crate) fn finish(x: &[u64], y: &[u64], tape: &[u64], work: &mut [u64])

@@ -4,7 +4,7 @@ use mathlib.Core.Path.{_≡_, refl}
 use mathlib.Core.List.{[], _∷_}
 use Prim.Native.Nat.{_-_, _*_}
 use native.Mathlib.Omega.{arith}
-use lib.Dec.{T}
+use lib.Dec.{eqb, T}
 use Rattle.word.specs.Encoding.{named, put}
 use Rattle.word.specs.Encoding as encoding
 use Rattle.word.specs.Layout.{tapeOf}
@@ -13,11 +13,10 @@ use Rattle.masking.specs.Reads.{knownAfter, memberOf, readsOnly}
 use Rattle.masking.proofs.emitted.Counts.{by-count}
 use Rattle.execution.specs.Inner.{GoodPlan, TakesTape}
 use Rattle.plans.specs.SumPlan.{sumPlan}
-use Rattle.blocks.specs.PlanWords.{isGate}
 use Rattle.straight.proofs.Cut.{Cut}
 use Rattle.straight_sum.specs.Runs.{gates, lastRun, runs}
 
-pub cut : Cut isGate runs lastRun gates sumPlan
+pub cut : Cut (λ k. eqb k 3) runs lastRun gates sumPlan
 unfolding sumPlan put named encoding.row
 cut = record { whole = refl; runs = tt; final = tt; gates = tt; same = refl }
 
@@ -25,9 +24,9 @@ pub good : GoodPlan sumPlan
 unfolding sumPlan put named encoding.row
 good = record { short = omega arith; good = refl }
 
-pub takes : TakesTape 81 sumPlan
+pub takes : TakesTape 53 sumPlan
 unfolding sumPlan put tapeOf
-takes = record { most = omega arith; tape = by-count (λ n. foretoldTape n sumPlan ≡ 81 * (n * (n - 1))) refl refl refl refl refl refl refl }
+takes = record { most = omega arith; tape = by-count (λ n. foretoldTape n sumPlan ≡ 53 * (n * (n - 1))) refl refl refl refl refl refl refl }
 
 -- it reads no register but the operands' before it is written, and writes register 2
 pub reads : T (readsOnly sumPlan (0 ∷ 1 ∷ []))

@@ -7,12 +7,11 @@ ghost use Rattle.masking.specs.Machine.{stepsOf};
 ghost use Rattle.masking.specs.Translation.{program};
 ghost use Rattle.gadgets.specs.Effects.{Enough, Ran};
 ghost use Rattle.plans.specs.SumPlan.{sumPlan};
-use crate::gates::gate_done;
 use crate::runs::gate;
 use crate::runs::run;
+use blocks::gates::and_done;
 
 pub mod calls;
-mod gates;
 pub mod in_place;
 mod runs;
 
@@ -26,10 +25,10 @@ pub fn done(n: usize, tape: &[u64], start: usize, cells: &mut [u64]) -> usize
     let mut k = 0;
     loop {
         run(k, n, cells);
-        if k == 37 {
+        if k == 53 {
             return t;
         }
-        t = gate_done(gate(k), n, tape, t, cells);
+        t = and_done(gate(k), n, tape, t, cells);
         k += 1;
     }
 }

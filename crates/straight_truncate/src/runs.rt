@@ -108,42 +108,42 @@ fn on_share(k: usize, i: usize, cells: &mut [u64])
                 0x6010083D,
                 0x600C0637,
                 0x60341A0C,
+                0x60140801,
                 0x50341A0C,
                 0x20180C04,
-                0x60140801,
-                0x20341A03,
                 0x40180C00,
+                0x5010083F,
                 0x501C0C3F,
+                0x2034060D,
+                0x6010083F,
                 0x601C0E3E,
                 0x60180C01,
                 0x50180C3F,
-                0x60180C3E,
-                0x5010083F,
                 i,
                 cells,
             );
-            four(0x20140A06, 0x6010083F, 0x20100807, 0x50140A09, i, cells);
-            two(0x50100809, 0x20241205, i, cells);
-            linear(0x20341A04, i, cells);
+            four(0x60180C3E, 0x20140C05, 0x20100E04, 0x50100809, i, cells);
+            two(0x20341A04, 0x50140A09, i, cells);
+            linear(0x20240A09, i, cells);
         }
         2 => {
             sixteen(
-                0x50101A34,
-                0x6010083D,
                 0x500C1A37,
+                0x50101A34,
+                0x60142E04,
+                0x6010083D,
                 0x600C0637,
-                0x50100809,
                 0x60341A0C,
                 0x50341A0C,
-                0x20341A03,
-                0x60142E04,
+                0x50100809,
+                0x2034060D,
                 0x50381A38,
+                0x604C1A0C,
                 0x60381C38,
                 0x500C1C08,
-                0x20381C03,
+                0x2038060E,
                 0x500C1C10,
                 0x20381C03,
-                0x604C1A0C,
                 i,
                 cells,
             );
@@ -151,19 +151,19 @@ fn on_share(k: usize, i: usize, cells: &mut [u64])
                 0x500C1C20,
                 0x20381C03,
                 0x504C260C,
-                0x60501C0C,
                 0x500C1A37,
                 0x600C063F,
                 0x204C2603,
+                0x60501C0C,
                 0x500C0601,
                 0x204C2603,
                 0x5050280C,
                 0x500C1C3E,
                 0x600C063E,
-                0x20502803,
                 0x204C2604,
+                0x20502803,
                 0x500C0A01,
-                0x20140A03,
+                0x20140605,
                 i,
                 cells,
             );
@@ -171,20 +171,20 @@ fn on_share(k: usize, i: usize, cells: &mut [u64])
         }
         3 => {
             eight(
-                0x500C1A37,
-                0x600C0637,
                 0x50101A34,
                 0x6010083D,
-                0x60341A0C,
-                0x50341A0C,
                 0x60140801,
-                0x70140A00,
+                0x500C1A37,
+                0x5010083F,
+                0x60341A0C,
+                0x600C0637,
+                0x50341A0C,
                 i,
                 cells,
             );
-            four(0x50140A0C, 0x20341A03, 0x5010083F, 0x6010083F, i, cells);
-            two(0x20140A04, 0x50100801, i, cells);
-            linear(0x20140A04, i, cells);
+            four(0x70140A00, 0x2034060D, 0x50140A0C, 0x6010083F, i, cells);
+            two(0x20140805, 0x50100801, i, cells);
+            linear(0x20140805, i, cells);
         }
         4 => {
             sixteen(

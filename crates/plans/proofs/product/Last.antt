@@ -1,164 +1,185 @@
--- The product's last segments against the definition: from R and low, which hold p = m_x · m_y and the exponents, to the product's word.
--- Rests on Normal, Pack and Choose (the segments in numbers), RoundAdd and Bits (the definition's bits).
+-- The product's tail against the definition: where S + C and low hold q = m_x · m_y - 1 and the exponents, a word that is as Ended says is the product.
+-- Rests on Ended, Rounding (q's bits rounded), Gap (where q's top bit stands) and Bits (the definition's bits).
 use mathlib.Core.Path.{_≡_, refl, sym, ap, ap₂, _∙_, subst}
 use mathlib.Core.Logic.{inl, inr}
-use Prim.Native.Nat.{ℕ, zero, suc, _+_, _-_, _*_, _%_, _^_, _≤_, _<_, min}
-use native.Mathlib.Nat.{mod-lt, mul-one, mul-zero}
+use mathlib.Core.Bool.{cond}
+use Prim.Native.Nat.{ℕ, zero, suc, _+_, _-_, _*_, _/_, _%_, _^_, _≤_, _<_, min}
+use native.Mathlib.Nat.{add-assoc, one-mul, zero-mul, mul-zero, eq-or-lt-of-le}
 use native.Mathlib.Omega.{arith}
-use lib.Pow.{pow-pos}
-use Rattle.bits.specs.Ops.{andW, spreadW}
-use Rattle.bits.proofs.Digits.{digit}
-use Rattle.bits.proofs.Choice.{and-spread}
-use Rattle.binary64.specs.Number.{expo, frac, magnitudeOf, magnitude}
+use lib.Dec.{ltb}
+use Rattle.bits.proofs.Digits.{digit, bit-lt}
+use Rattle.binary64.specs.Number.{expo, frac, signed, magnitudeOf, magnitude}
 use Rattle.binary64.specs.Rounding.{magBits}
 use Rattle.binary64.specs.Product.{product}
 use Rattle.binary64.specs.Steps.{roundNE, packed}
-use Rattle.binary64.proofs.Cases.{lt-or-ge}
-use Rattle.binary64.proofs.Round.{bits-lt}
-use Rattle.plans.proofs.Lanes.{isZero, not-zero, zeros16}
-use Rattle.plans.proofs.Or16.{or16, or16-lt, or16-zero}
-use Rattle.plans.proofs.RoundAdd.{round-tie}
-use Rattle.plans.proofs.product.Operands.{expo-lt, signif}
-use Rattle.plans.proofs.product.End.{normalW, restW, lanesW, packW, rangedW, nonzeroW, signedW, testedW, chosenW, endW}
-use Rattle.plans.proofs.product.Normal.{Normalised, rest-is}
-use Rattle.plans.proofs.product.Pack.{Tested, tested, pack-is, pack-lt}
-use Rattle.plans.proofs.product.Choose.{below, within, beyond, nonzero-is, signed-is, ranged-lt}
+use Rattle.binary64.proofs.Cases.{lt-or-ge, if-lt, if-not-lt}
+use Rattle.binary64.proofs.Round.{closest-up, closest-down}
+use Rattle.plans.proofs.Lanes.{isZero, not-zero}
+use Rattle.plans.proofs.product.Operands.{signif}
+use Rattle.plans.proofs.product.High.{product-ge, product-lt}
+use Rattle.plans.proofs.product.Ended.{Ended, carryIn, restOnes, carryOf, lastOf, bothNonzero, signOf}
+use Rattle.plans.proofs.product.Rounding.{round-one, round-zero}
+use Rattle.plans.proofs.product.Gap.{product-not}
 use Rattle.plans.proofs.product.Bits.{zero-left, zero-right, under, over, regroup}
 
--- ---- an operand that is a zero
-none-left : (m z : ℕ) → m * min (1 - isZero 0) z ≡ 0
-none-left m z = let e : min (1 - isZero 0) z ≡ 0 = omega arith in ap (λ (k : ℕ). m * k) e ∙ mul-zero m
+-- ---- where the top bit of p stands
+record Top (p b : ℕ) : Type 0 where
+  lo : 2 ^ (104 + b) ≤ p
+  hi : p < 2 ^ suc (104 + b)
 
-none-right : (m z : ℕ) → m * min z (1 - isZero 0) ≡ 0
-none-right m z = let e : min z (1 - isZero 0) ≡ 0 = omega arith in ap (λ (k : ℕ). m * k) e ∙ mul-zero m
+top : (q : ℕ) → 2 ^ 104 ≤ q + 1 → q + 1 < 2 ^ 106 → (q + 1 ≡ 2 ^ 105 → ⊥) → Top (q + 1) (q / 2 ^ 105)
+top q lo hi not =
+    elim (lt-or-ge (q + 1) (2 ^ 105)) [
+      | inl l ↦ let e : 0 ≡ q / 2 ^ 105 = omega arith in subst (Top (q + 1)) e (record { lo = lo; hi = l })
+      | inr g ↦
+          elim (eq-or-lt-of-le g) [
+            | inl same ↦ absurd (not (sym same))
+            | inr l ↦ let e : 1 ≡ q / 2 ^ 105 = omega arith in subst (Top (q + 1)) e (record { lo = g; hi = hi })
+          ]
+    ]
 
-both-kept : (m a b : ℕ) → m * min (1 - isZero (suc a)) (1 - isZero (suc b)) ≡ m
-both-kept m a b = ap₂ (λ (i j : ℕ). m * min (1 - i) (1 - j)) (not-zero (suc a) (omega arith)) (not-zero (suc b) (omega arith)) ∙ mul-one m
+-- rounded, it has 53 bits or is 2^53
+record Kept (n : ℕ) : Type 0 where
+  ge : 2 ^ 52 ≤ n
+  le : n ≤ 2 ^ 53
 
--- ---- the last segments, from p, R and low = l · 2^11
-module _ (x y p l R : ℕ) (hl : l < 2 ^ 53) (n : Normalised x y p R (l * 2 ^ 11) (l % 2 ^ 41)) where
-  N : ℕ
-  N = normalW x y R (l * 2 ^ 11)
+kept : (p b : ℕ) → b < 2 → Top p b → Kept (roundNE p (52 + b))
+unfolding roundNE
+kept p =
+    digit (λ b. Top p b → Kept (roundNE p (52 + b)))
+    (λ t. let l = closest-down p (2 ^ 52) in let u = closest-up p (2 ^ 52) in let lo = t .lo in let hi = t .hi in record { ge = omega arith; le = omega arith })
+    (λ t. let l = closest-down p (2 ^ 53) in let u = closest-up p (2 ^ 53) in let lo = t .lo in let hi = t .hi in record { ge = omega arith; le = omega arith })
 
-  K : ℕ
-  K = or16 (restW (normalW x y R (l * 2 ^ 11)) (l * 2 ^ 11))
+-- ---- bits 62..0 by T, one more than the exponents' sum with b, and by the rounded significand n
+abbrev bitsOf : ℕ → ℕ → ℕ
+bitsOf T n = cond (ltb T 1025) 0 (packed (T - 1025) n)
 
-  Z : ℕ
-  Z = testedW x y R (l * 2 ^ 11) (normalW x y R (l * 2 ^ 11))
+beyond-bits : (T n : ℕ) → 3071 ≤ T → 2 ^ 52 ≤ n → 2047 * 2 ^ 52 ≡ packed (T - 1025) n
+beyond-bits T n h l = omega arith
 
-  v : ℕ
-  v = expo x + expo y + n .b
+one-bits : (T k n : ℕ) → 1025 ≤ T → T ≤ 3070 → n ≡ 2 ^ 52 + k → n ≤ 2 ^ 53 → (T - 1024) * 2 ^ 52 + k ≡ packed (T - 1025) n
+one-bits T k n lo hi e l = omega arith
 
-  v-lt : v < 4096
-  unfolding v
-  v-lt = let a = expo-lt x in let c = expo-lt y in let d = n .b-lt in omega arith
+zero-bits : (T k e n : ℕ) → 1025 ≤ T → T ≤ 3070 → n ≡ 2 * k + e → e < 2 → 2 ^ 52 ≤ n → n ≤ 2 ^ 53
+    → (T - 1024 + k / 2 ^ 52) * 2 ^ 52 + (2 * (k % 2 ^ 52) + e) % 2 ^ 52 ≡ packed (T - 1025) n
+zero-bits T k e n lo hi h he l u = halves (k / 2 ^ 52) (k % 2 ^ 52) (omega arith) (omega arith)
+  where
+    halves : (i j : ℕ) → n ≡ 2 * (i * 2 ^ 52 + j) + e → j < 2 ^ 52 → (T - 1024 + i) * 2 ^ 52 + (2 * j + e) % 2 ^ 52 ≡ packed (T - 1025) n
+    halves i j h hj = omega arith
 
-  R-is : R ≡ v * 2 ^ 52 + n .g
-  unfolding v
-  R-is = n .R-is
+-- ---- p = q + 1 rounded as the plan does it: f is q from place 53 on, without the bit b
+module _ (q f : ℕ) where
+  parts : (h l : ℕ) → q / 2 ^ 53 ≡ h → q % 2 ^ 53 ≡ l → q ≡ (4 * h + 2 * (l / 2 ^ 52) + l / 2 ^ 51 % 2) * 2 ^ 51 + l % 2 ^ 51
+  parts h l i j = omega arith
 
-  t : Tested K x y v Z
-  unfolding K Z testedW
-  t = subst (λ (z : ℕ). Tested K x y v (zeros16 (lanesW K x y z))) (sym R-is) (tested K x y v (n .g) (or16-lt _) v-lt (n .g-lt))
+  rounded-one : q / 2 ^ 53 ≡ 2 ^ 52 + f → roundNE (q + 1) 53 ≡ 2 ^ 52 + (f + carryOf 1 (q % 2 ^ 53) f)
+  rounded-one e =
+      let l = q % 2 ^ 53 in
+      let even : (2 ^ 52 + f) % 2 ≡ f % 2 = omega arith in
+      round-one q (2 ^ 52 + f) (l / 2 ^ 52) (l / 2 ^ 51 % 2) (l % 2 ^ 51) (omega arith) (omega arith) (omega arith) (parts (2 ^ 52 + f) l e refl)
+      ∙ ap (λ (h : ℕ). 2 ^ 52 + f + carryIn 1 (restOnes l) (l / 2 ^ 52) (l / 2 ^ 51 % 2) h) even ∙ add-assoc (2 ^ 52) f (carryOf 1 l f)
 
-  -- the bit that rounds: 1 where the last bit kept is set or the rest is not 0
-  q : ℕ
-  q = 1 - isZero ((2 ^ 52 + n .normal .F) % 2 + n .normal .s)
+  rounded-zero : q / 2 ^ 53 ≡ f → roundNE (q + 1) 52 ≡ 2 * (f + carryOf 0 (q % 2 ^ 53) f) + lastOf (q % 2 ^ 53)
+  rounded-zero e =
+      let l = q % 2 ^ 53 in
+      round-zero q f (l / 2 ^ 52) (l / 2 ^ 51 % 2) (l % 2 ^ 51) (omega arith) (omega arith) (omega arith) (parts f l e refl)
 
-  q-is : 1 - Z % 2 ≡ q
-  unfolding q K
-  q-is =
-      let m = n .normal in
-      let w = l % 2 ^ 41 * 2 ^ 23 + (m .F % 2 * 2 ^ 11 + m .e) in
-      let e : restW (normalW x y R (l * 2 ^ 11)) (l * 2 ^ 11) ≡ w =
-      ap (λ (z : ℕ). restW z (l * 2 ^ 11)) (m .N-is) ∙ rest-is (m .F) (m .r) (m .e) l (m .F-lt) (m .r-lt) (m .e-lt) hl in
-      let wl : w < 2 ^ 64 = wide (l % 2 ^ 41) (m .F) (m .e) (mod-lt l (pow-pos 41)) (m .e-lt) in
-      ap (λ (z : ℕ). 1 - z)
-      (t .even ∙ or16-zero _ (subst (λ (z : ℕ). z < 2 ^ 64) (sym e) wl) ∙ ap isZero e ∙ m .rest (m .F % 2) ∙ ap (λ (z : ℕ). isZero (z + m .s)) (parity (m .F)))
-    where
-      wide : (d F e : ℕ) → d < 2 ^ 41 → e < 2 ^ 11 → d * 2 ^ 23 + (F % 2 * 2 ^ 11 + e) < 2 ^ 64
-      wide d F e h k = omega arith
+-- ---- the word by T and the rounded significand
+abbrev chosen : ℕ → ℕ → ℕ → ℕ
+chosen x y m = signed (signOf x y) (bothNonzero x y * m)
 
-      parity : (F : ℕ) → F % 2 ≡ (2 ^ 52 + F) % 2
-      parity F = omega arith
+module _ (x y q T f w : ℕ) where
+  -- what is known of b
+  record At (b : ℕ) : Type 0 where
+    stands : Top (q + 1) b
+    high : q / 2 ^ 53 ≡ b * 2 ^ 52 + f
+    ended : Ended x y T f (q % 2 ^ 53) b w
 
-  rounded : roundNE p (52 + n .b) ≡ 2 ^ 52 + n .normal .F + n .normal .r * q
-  unfolding q
-  rounded =
-      let m = n .normal in
-      let e : 52 + n .b ≡ suc (51 + n .b) = omega arith in
-      ap₂ roundNE (m .p-is) e ∙ round-tie (51 + n .b) (2 ^ 52 + m .F) (m .r) (m .s) (m .r-lt) (m .s-lt)
+  within : (b : ℕ) → b < 2 → 1025 ≤ T → T ≤ 3070 → At b → w ≡ chosen x y (packed (T - 1025) (roundNE (q + 1) (52 + b)))
+  within b hb lo hi =
+      let l = q % 2 ^ 53 in
+      digit (λ b. At b → w ≡ chosen x y (packed (T - 1025) (roundNE (q + 1) (52 + b))))
+      (λ a.
+      let k = kept (q + 1) 0 (omega arith) (a .stands) in
+      a .ended .within-zero refl lo hi
+      ∙ ap (chosen x y) (zero-bits T (f + carryOf 0 l f) (lastOf l) (roundNE (q + 1) 52) lo hi (rounded-zero q f (a .high ∙ omega arith)) (bit-lt _) (k .ge) (k .le)))
+      (λ a.
+      let k = kept (q + 1) 1 (omega arith) (a .stands) in
+      a .ended .within-one refl lo hi ∙ ap (chosen x y) (one-bits T (f + carryOf 1 l f) (roundNE (q + 1) 53) lo hi (rounded-one q f (a .high ∙ omega arith)) (k .le)))
+      b hb
 
-  rounded-le : 2 ^ 52 + n .normal .F + n .normal .r * q ≤ 2 ^ 53
-  unfolding q
-  rounded-le = at-most (n .normal .F) (n .normal .r) (1 - isZero ((2 ^ 52 + n .normal .F) % 2 + n .normal .s)) (n .normal .F-lt) (n .normal .r-lt) (omega arith)
-    where
-      at-most : (F r q : ℕ) → F < 2 ^ 52 → r < 2 → q ≤ 1 → 2 ^ 52 + F + r * q ≤ 2 ^ 53
-      at-most F r q hF hr hq = digit (λ r. 2 ^ 52 + F + r * q ≤ 2 ^ 53) (omega arith) (omega arith) r hr
-
-  -- ---- what the choice by range leaves
-  ranged : ℕ
-  ranged = rangedW R Z (packW R N Z 1)
-
-  at-R : ranged ≡ rangedW (v * 2 ^ 52 + n .g) Z (packW (v * 2 ^ 52 + n .g) N Z 1)
-  unfolding ranged
-  at-R = ap (λ (z : ℕ). rangedW z Z (packW z N Z 1)) R-is
-
-  ranged-under : v < 1024 → ranged ≡ 0
-  ranged-under h = at-R ∙ below K x y v (n .g) Z (packW (v * 2 ^ 52 + n .g) N Z 1) v-lt (n .g-lt) (pack-lt _ N Z 1) t h
-
-  ranged-in : 1024 ≤ v → v < 3070 → ranged ≡ (v - 1024) * 2 ^ 52 + (2 ^ 52 + n .normal .F + n .normal .r * q)
-  unfolding N
-  ranged-in h u =
-      let m = n .normal in
-      at-R ∙ within K x y v (n .g) Z (packW (v * 2 ^ 52 + n .g) N Z 1) v-lt (n .g-lt) (pack-lt _ N Z 1) t h u
-      ∙ ap (λ (z : ℕ). packW (v * 2 ^ 52 + n .g) z Z 1) (m .N-is)
-      ∙ pack-is v (n .g) (m .F) (m .r) (m .e) Z (n .g-lt) (m .F-lt) (m .r-lt) (m .e-lt) (t .Z-lt) h u
-      ∙ ap (λ (z : ℕ). (v - 1024) * 2 ^ 52 + (2 ^ 52 + m .F + m .r * z)) q-is
-
-  ranged-beyond : 3070 ≤ v → ranged ≡ 2047 * 2 ^ 52
-  ranged-beyond h = at-R ∙ beyond K x y v (n .g) Z (packW (v * 2 ^ 52 + n .g) N Z 1) v-lt (n .g-lt) (pack-lt _ N Z 1) t h
-
-  ranged-packed : 1024 ≤ v → ranged ≡ packed (v - 1024) (roundNE p (52 + n .b))
-  ranged-packed h =
-      let m = n .normal in
-      elim (lt-or-ge v 3070) [
-        | inl u ↦ ranged-in h u ∙ inside v (2 ^ 52 + m .F + m .r * q) u rounded-le ∙ ap (packed (v - 1024)) (sym rounded)
-        | inr u ↦ ranged-beyond u ∙ outside v (m .F + m .r * q) (2 ^ 52 + m .F + m .r * q) u (omega arith) ∙ ap (packed (v - 1024)) (sym rounded)
-      ]
-    where
-      inside : (v w : ℕ) → v < 3070 → w ≤ 2 ^ 53 → (v - 1024) * 2 ^ 52 + w ≡ packed (v - 1024) w
-      inside v w h l = omega arith
-
-      outside : (v c w : ℕ) → 3070 ≤ v → w ≡ 2 ^ 52 + c → 2047 * 2 ^ 52 ≡ packed (v - 1024) w
-      outside v c w h e = omega arith
-
-  -- ---- against the definition, p being the product of the significands
-  normal-pair : (xa xb : ℕ) → p ≡ signif x * signif y → expo x ≡ suc xa → expo y ≡ suc xb
-      → ranged ≡ magBits 1126 (magnitudeOf (suc xa) (frac x) * magnitudeOf (suc xb) (frac y))
-  unfolding v
-  normal-pair xa xb ep e f =
-      let c : suc xa + suc xb + n .b ≡ expo x + expo y + n .b = ap₂ (λ (i j : ℕ). i + j + n .b) (sym e) (sym f) in
-      let M : p * 2 ^ (xa + xb) ≡ magnitudeOf (suc xa) (frac x) * magnitudeOf (suc xb) (frac y) =
-      ap (λ (z : ℕ). z * 2 ^ (xa + xb)) ep ∙ regroup (frac x) (frac y) xa xb in
-      elim (lt-or-ge (expo x + expo y + n .b) 1024) [
-        | inl h ↦ ranged-under h ∙ sym (under p (n .b) xa xb (n .lo) (n .hi) (omega arith)) ∙ ap (magBits 1126) M
-        | inr h ↦
-            ranged-packed h ∙ ap (λ (z : ℕ). packed (z - 1024) (roundNE p (52 + n .b))) (sym c)
-            ∙ sym (over p (n .b) xa xb (n .lo) (n .hi) (omega arith)) ∙ ap (magBits 1126) M
+  any : (b : ℕ) → b < 2 → At b → w ≡ chosen x y (bitsOf T (roundNE (q + 1) (52 + b)))
+  any b hb a =
+      let n = roundNE (q + 1) (52 + b) in
+      let m = packed (T - 1025) n in
+      elim (lt-or-ge T 1025) [
+        | inl u ↦ a .ended .below (omega arith) ∙ ap (signed (signOf x y)) (sym (mul-zero (bothNonzero x y))) ∙ ap (chosen x y) (sym (if-lt T 1025 0 m u))
+        | inr lo ↦
+            elim (lt-or-ge T 3071) [
+              | inl hi ↦ within b hb lo (omega arith) a ∙ ap (chosen x y) (sym (if-not-lt T 1025 0 m lo))
+              | inr hi ↦ a .ended .beyond hi ∙ ap (chosen x y) (beyond-bits T n hi (kept (q + 1) b hb (a .stands) .ge) ∙ sym (if-not-lt T 1025 0 m lo))
+            ]
       ]
 
-  by-zeros : (E H : ℕ) → p ≡ signif x * signif y → expo x ≡ E → expo y ≡ H
-      → ranged * min (1 - isZero E) (1 - isZero H) ≡ magBits 1126 (magnitudeOf E (frac x) * magnitudeOf H (frac y))
-  by-zeros zero H ep e f = none-left ranged (1 - isZero H) ∙ sym (zero-left H (frac x) (frac y))
-  by-zeros (suc xa) zero ep e f = none-right ranged (1 - isZero (suc xa)) ∙ sym (zero-right (suc xa) (frac x) (frac y))
-  by-zeros (suc xa) (suc xb) ep e f = both-kept ranged xa xb ∙ normal-pair xa xb ep e f
+-- ---- the definition's bits
+defined : (p b xa xb T : ℕ) → Top p b → T ≡ suc xa + suc xb + 1 + b → bitsOf T (roundNE p (52 + b)) ≡ magBits 1126 (p * 2 ^ (xa + xb))
+defined p b xa xb T t e =
+    let n = roundNE p (52 + b) in
+    elim (lt-or-ge T 1025) [
+      | inl u ↦ if-lt T 1025 0 (packed (T - 1025) n) u ∙ sym (under p b xa xb (t .lo) (t .hi) (omega arith))
+      | inr l ↦
+          let i : T - 1025 ≡ suc xa + suc xb + b - 1024 = omega arith in
+          if-not-lt T 1025 0 (packed (T - 1025) n) l ∙ ap (λ (z : ℕ). packed z n) i ∙ sym (over p b xa xb (t .lo) (t .hi) (omega arith))
+    ]
 
-  pub end-is : x < 2 ^ 64 → y < 2 ^ 64 → p ≡ signif x * signif y → endW x y R (l * 2 ^ 11) 1 ≡ product x y
-  unfolding chosenW product magnitude ranged N Z
-  end-is hx hy ep =
-      let m : ℕ = magBits 1126 (magnitudeOf (expo x) (frac x) * magnitudeOf (expo y) (frac y)) in
-      let e : andW ranged (spreadW (nonzeroW Z)) ≡ m =
-      and-spread ranged (nonzeroW Z) (ranged-lt R Z (packW R N Z 1) (pack-lt R N Z 1)) ∙ ap (λ (z : ℕ). ranged * z) (nonzero-is K x y v Z t)
-      ∙ by-zeros (expo x) (expo y) ep refl refl in
-      ap (signedW x y) e ∙ signed-is x y m hx hy (bits-lt 1126 _ (omega arith))
+none : (n m : ℕ) → n ≡ 0 → n * m ≡ 0
+none n m e = ap (λ (z : ℕ). z * m) e ∙ zero-mul m
+
+by-zeros : (p b T E H F G : ℕ) → p ≡ (2 ^ 52 + F) * (2 ^ 52 + G) → Top p b → T ≡ E + H + 1 + b
+    → min (1 - isZero E) (1 - isZero H) * bitsOf T (roundNE p (52 + b)) ≡ magBits 1126 (magnitudeOf E F * magnitudeOf H G)
+by-zeros p b T zero H F G ep t e = none (min (1 - isZero 0) (1 - isZero H)) (bitsOf T (roundNE p (52 + b))) (omega arith) ∙ sym (zero-left H F G)
+by-zeros p b T (suc xa) zero F G ep t e = none (min (1 - isZero (suc xa)) (1 - isZero 0)) (bitsOf T (roundNE p (52 + b))) (omega arith) ∙ sym (zero-right (suc xa) F G)
+by-zeros p b T (suc xa) (suc xb) F G ep t e =
+    ap₂ (λ (i j : ℕ). min (1 - i) (1 - j) * bitsOf T (roundNE p (52 + b))) (not-zero (suc xa) (omega arith)) (not-zero (suc xb) (omega arith))
+    ∙ one-mul (bitsOf T (roundNE p (52 + b))) ∙ defined p b xa xb T t e ∙ ap (λ (z : ℕ). magBits 1126 (z * 2 ^ (xa + xb))) ep ∙ ap (magBits 1126) (regroup F G xa xb)
+
+-- ---- over the operands
+abbrev pub lessOne : ℕ → ℕ → ℕ
+lessOne x y = signif x * signif y - 1
+
+abbrev pub topBit : ℕ → ℕ → ℕ
+topBit x y = lessOne x y / 2 ^ 105
+
+pub top-bit : (x y : ℕ) → topBit x y < 2
+top-bit x y = small (signif x * signif y) (product-lt x y)
+  where
+    small : (p : ℕ) → p < 2 ^ 106 → (p - 1) / 2 ^ 105 < 2
+    small p h = omega arith
+
+-- t = S + C
+module _ (x y t : ℕ) (h : t ≡ (expo x + expo y + 1) * 2 ^ 52 + lessOne x y / 2 ^ 53) where
+  pub sum-high : t / 2 ^ 52 ≡ expo x + expo y + 1 + topBit x y
+  sum-high = from (expo x + expo y + 1) (lessOne x y) h
+    where
+      from : (e q : ℕ) → t ≡ e * 2 ^ 52 + q / 2 ^ 53 → t / 2 ^ 52 ≡ e + q / 2 ^ 105
+      from e q h = omega arith
+
+  sum-low : lessOne x y / 2 ^ 53 ≡ topBit x y * 2 ^ 52 + t % 2 ^ 52
+  sum-low = from (expo x + expo y + 1) (lessOne x y) h
+    where
+      from : (e q : ℕ) → t ≡ e * 2 ^ 52 + q / 2 ^ 53 → q / 2 ^ 53 ≡ q / 2 ^ 105 * 2 ^ 52 + t % 2 ^ 52
+      from e q h = omega arith
+
+  pub ended-product : (w : ℕ) → Ended x y (t / 2 ^ 52) (t % 2 ^ 52) (lessOne x y % 2 ^ 53) (topBit x y) w → w ≡ product x y
+  unfolding product magnitude
+  ended-product w e =
+      let q = lessOne x y in
+      let b = topBit x y in
+      let ge = product-ge x y in
+      let p : q + 1 ≡ signif x * signif y = one-more (signif x * signif y) ge in
+      let st : Top (q + 1) b = top q (subst (λ (z : ℕ). 2 ^ 104 ≤ z) (sym p) ge) (subst (λ (z : ℕ). z < 2 ^ 106) (sym p) (product-lt x y)) (λ i. product-not x y (sym p ∙ i)) in
+      any x y q (t / 2 ^ 52) (t % 2 ^ 52) w b (top-bit x y) (record { stands = st; high = sum-low; ended = e })
+      ∙ ap (signed (signOf x y)) (by-zeros (q + 1) b (t / 2 ^ 52) (expo x) (expo y) (frac x) (frac y) p st sum-high)
+    where
+      one-more : (p : ℕ) → 2 ^ 104 ≤ p → p - 1 + 1 ≡ p
+      one-more p h = omega arith

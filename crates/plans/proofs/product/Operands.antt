@@ -17,8 +17,5 @@ signif a = 2 ^ 52 + frac a
 abbrev pub comple : ℕ → ℕ
 comple a = (2 ^ 52 - 1) - frac a
 
-pub comple-lt : (a : ℕ) → comple a < 2 ^ 52
-comple-lt a = omega arith
-
 pub comple-sum : (a : ℕ) → comple a + frac a + 1 ≡ 2 ^ 52
 comple-sum a = let l = frac-lt a in omega arith

@@ -1,4 +1,4 @@
--- The product's rows: after n of them S, C and low hold n_x · 2^n + n_y + 1 + (y mod 2^n) · (2 m_x + 1), by induction over the row number.
+-- The product's rows: after n of them S, C and low hold n_x · 2^n + n_y + (y mod 2^n) · (2 m_x + 1), by induction over the row number.
 -- Rests on Registers, CarrySave, Operands and Shifts.
 use mathlib.Core.Path.{_≡_, refl, sym, ap, ap₂, _∙_, subst}
 use mathlib.Core.List.{List}
@@ -91,7 +91,7 @@ addend-lt x b h =
 
 -- the total after n rows
 abbrev pub rowsTotal : ℕ → ℕ → ℕ → ℕ
-rowsTotal x y n = comple x * 2 ^ n + (comple y + 1) + y % 2 ^ n * (2 * signif x + 1)
+rowsTotal x y n = comple x * 2 ^ n + comple y + y % 2 ^ n * (2 * signif x + 1)
 
 total-step : (c e m Q b f : ℕ) → c * Q + e + f * m + (c + b * m) * Q ≡ c * (2 * Q) + e + (b * Q + f) * m
 total-step c e m Q b f = omega arith
@@ -101,8 +101,8 @@ mod-suc y n = ap (λ (z : ℕ). y % 2 ^ z) (sym (one-add n)) ∙ mod-pow-add y 1
 
 rows-step : (x y n : ℕ) → rowsTotal x y n + (comple x + y / 2 ^ n % 2 * (2 * signif x + 1)) * 2 ^ n ≡ rowsTotal x y (suc n)
 rows-step x y n =
-    total-step (comple x) (comple y + 1) (2 * signif x + 1) (2 ^ n) (y / 2 ^ n % 2) (y % 2 ^ n)
-    ∙ ap₂ (λ (u v : ℕ). comple x * u + (comple y + 1) + v * (2 * signif x + 1)) (sym (two-pow n)) (sym (mod-suc y n))
+    total-step (comple x) (comple y) (2 * signif x + 1) (2 ^ n) (y / 2 ^ n % 2) (y % 2 ^ n)
+    ∙ ap₂ (λ (u v : ℕ). comple x * u + comple y + v * (2 * signif x + 1)) (sym (two-pow n)) (sym (mod-suc y n))
 
 -- ---- n rows
 pub rows-inv : (n x y : ℕ) (r : List ℕ) → n ≤ 63 → Inv x y 0 (rowsTotal x y 0) r → Inv x y n (rowsTotal x y n) (runSteps (productRows n) r)

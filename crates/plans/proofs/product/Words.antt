@@ -8,7 +8,7 @@ use lib.Dec.{T, eqb, eqb→eq}
 use lib.ListN.{length, getD, set, drop}
 use borrow.Author.Tests.{lt-ltb, le-ltb}
 use Rattle.word.specs.Encoding.{put, wordOf}
-use Rattle.plans.specs.ProductPlan.{productHead, carryRow, productRow, rowCount, productRows, withExponents, highHalf, normalise, sticky, tests, roundPack, choose, productEnd, productTail, productSteps, productPlan}
+use Rattle.plans.specs.ProductPlan.{productHead, carryRow, productRow, rowCount, productRows, lastRows, productEnd, productTail, productSteps, productPlan}
 use Rattle.plans.specs.ProductRows.{headWords, rowWords, wordsOfRows, tailWords, wordInRow, headEnd, rowLength, rowsEnd, productWord, ByRows}
 use Rattle.plans.proofs.Tests.{every, each}
 
@@ -16,12 +16,12 @@ use Rattle.plans.proofs.Tests.{every, each}
 abbrev planWord : ℕ → Bool
 planWord i = eqb (getD productPlan i 0) (productWord i)
 
-every-word : T (every 810 planWord)
-unfolding productHead carryRow productRow productRows withExponents highHalf normalise sticky tests roundPack choose productEnd productTail productSteps productPlan headWords rowWords tailWords put
+every-word : T (every 948 planWord)
+unfolding productHead productRow productRows lastRows productEnd productTail productSteps productPlan headWords rowWords tailWords put
 every-word = tt
 
-pub plan-size : length productPlan ≡ 810
-unfolding productHead carryRow productRow productRows withExponents highHalf normalise sticky tests roundPack choose productEnd productTail productSteps productPlan
+pub plan-size : length productPlan ≡ 948
+unfolding productHead productRow productRows lastRows productEnd productTail productSteps productPlan
 plan-size = refl
 
 parts : productPlan ≡ headWords ++ (wordsOfRows rowCount ++ tailWords)
@@ -36,12 +36,12 @@ unfolding rowWords productRow carryRow put
 numbered q h = ap (λ (w : ℕ). w ∷ drop 1 (rowWords 0)) (omega arith)
 
 pub by-rows : ByRows
-unfolding productHead carryRow productRow withExponents highHalf normalise sticky tests roundPack choose productEnd productTail headWords rowWords tailWords
+unfolding productHead productRow lastRows productEnd productTail headWords rowWords tailWords
 by-rows =
     record {
       parts = parts;
       rows = numbered;
-      words = λ i h. eqb→eq _ _ (each 810 planWord every-word i (omega (arith, plan-size)));
+      words = λ i h. eqb→eq _ _ (each 948 planWord every-word i (omega (arith, plan-size)));
       tables = refl;
       fewer = omega (arith, plan-size);
     }

@@ -1,147 +1,207 @@
--- The sum's plan, from the number z = A ± B to the result: its bits 62..0 are binary64's `encoded`, nothing for z = 0, and the sign is the larger
--- operand's, except that a minus is dropped where the result is exactly zero. Rests on Normal, Tests and Result.
+-- The sum's plan, from the number z = |A ± B| and its sign to the result: bits 62..0 are binary64's `encoded`, nothing for z = 0; the sign is dropped where z = 0, and where both operands are
+-- zeros of unlike signs. Rests on Normal, Exponent, Tests, Rounded and Chosen.
 use mathlib.Core.Path.{_≡_, refl, sym, ap, ap₂, _∙_, subst}
-use mathlib.Core.Logic.{_⊎_, inl, inr}
-use Prim.Native.Nat.{ℕ, suc, _+_, _-_, _*_, _/_, _%_, _^_, _≤_, _<_}
-use native.Mathlib.Nat.{add-zero, lt-of-le-of-lt, div-one}
+use mathlib.Core.Logic.{inl, inr}
+use Prim.Native.Nat.{ℕ, _+_, _-_, _*_, _/_, _%_, _^_, _≤_, _<_}
+use native.Mathlib.Nat.{mod-eq-of-lt, mod-lt, eq-zero-or-pos, zero-mul, mul-zero}
 use native.Mathlib.Omega.{arith}
-use lib.Count.{leadingZeros, leading-of-zero, leading-top}
+use lib.Count.{leadingZeros, leading-of-zero}
 use lib.Pow.{pow-pos}
-use Rattle.bits.specs.Ops.{xorW}
-use Rattle.bits.proofs.Digits.{bit}
-use Rattle.bits.proofs.Xor.{xor-comm}
-use Rattle.bits.proofs.Sum.{xor-packed}
+use Rattle.bits.specs.Ops.{xorW, shrW}
+use Rattle.bits.proofs.Digits.{digit}
+use Rattle.bits.proofs.Bound.{xor-lt, shr-lt}
+use Rattle.bits.proofs.Places.{shr-is}
 use Rattle.binary64.specs.Number.{expo, signed}
-use Rattle.binary64.specs.Steps.{encoded}
-use Rattle.binary64.proofs.Cases.{pow-lt-back}
-use Rattle.binary64.proofs.Encode.{to-top, encoded-lt}
-use Rattle.plans.proofs.Lanes.{isZero, not-zero, zeros16, zeros16-lt}
-use Rattle.plans.proofs.Shifts.{exponent}
-use Rattle.plans.proofs.sum.Run.{exponentW, leadingW, normalW, lessW, resultLanes, roundedW, chosenW, closing}
+use Rattle.binary64.specs.Steps.{roundNE, packed, encodedAt, encoded}
+use Rattle.binary64.proofs.Cases.{lt-or-ge, if-lt, if-not-lt}
+use Rattle.binary64.proofs.Encode.{to-top}
+use Rattle.binary64.proofs.Round.{round-top}
+use Rattle.plans.proofs.Shifts.{exponent, xor-parity}
+use Rattle.plans.proofs.Lanes.{isZero, not-zero}
+use Rattle.plans.proofs.sum.Run.{exponentW, leadingW, normalW, Riding, exponentRun, lessW, underW, packedW, roundedW, chosenW, finishW}
 use Rattle.plans.proofs.sum.Leading.{leading-lt}
-use Rattle.plans.proofs.sum.Normal.{leading-some, leading-odd, normal-value, normal-places, normal-none}
-use Rattle.plans.proofs.sum.Tests.{dropped, minus, cancels, empty, result-tests}
-use Rattle.plans.proofs.sum.Result.{less-none, less-lt, rounded-lt, chosen-under, encoded-bits, sign-is}
+use Rattle.plans.proofs.sum.Normal.{leading-some, leading-odd, leading-first, leading-second, normal-none, normal-places, normal-value, normal-zero}
+use Rattle.plans.proofs.sum.Exponent.{less-is, under-is, exponent-at, under-none, under-some, packed-is}
+use Rattle.plans.proofs.sum.Tests.{Leads, lanes-lt, unlike-zeros, over-some, over-none}
+use Rattle.plans.proofs.sum.Rounded.{rounded-is}
+use Rattle.plans.proofs.sum.Chosen.{chosen-under, chosen-over, chosen-some}
 
-vanished : (x : ℕ) → x ≡ 0 → isZero x ≡ 1
-vanished x e = ap isZero e
+-- ---- the end of the plan for the exponent e, the value w and the count less 1 mu of a number with leading ones th
+abbrev ending : ℕ → ℕ → ℕ → ℕ → ℕ → ℕ → ℕ
+ending e mu w th xy sg =
+    let r : Riding = exponentRun e mu th xy in
+    let s : ℕ = lessW e mu (r .words) in
+    chosenW (roundedW (packedW s w) w) sg (underW s (r .words)) (r .lanes) (xorW (shrW (r .lanes) 16) th)
 
--- ---- the end of the plan, for a number z
-module _ (a xy Z : ℕ) (ha : a < 2 ^ 64) (hx : xy < 2 ^ 64) (hZ : Z < 2 ^ 64) where
-  module _ (z : ℕ) where
-    pub v : ℕ
-    v = lessW (exponentW a) (normalW z .count)
+module _ (e mu w th xy sg lz c : ℕ) (he : e < 2 ^ 11) (hm : mu < 2 ^ 16) (hx : xy < 2 ^ 64) (t : Leads lz th) (at : (mu + 1) % 2 ^ 16 ≡ c) where
+  abbrev r : Riding
+  r = exponentRun e mu th xy
 
-    T : ℕ
-    T = zeros16 (resultLanes (normalW z .value) v a xy (leadingW z) Z)
+  abbrev under : ℕ
+  under = underW (lessW e mu (r .words)) (r .words)
 
-    magnitude : ℕ
-    magnitude = chosenW (roundedW (normalW z .value) v T) v T
+  abbrev drop : ℕ
+  drop = xorW (shrW (r .lanes) 16) th
 
-    v-lt : v < 2 ^ 64
-    unfolding v
-    v-lt = less-lt (exponentW a) (normalW z .count)
+  lanes-word : r .lanes < 2 ^ 64
+  lanes-word = lanes-lt e mu th xy lz he hm hx t
 
-    T-lt : T < 2 ^ 64
-    unfolding T
-    T-lt = zeros16-lt (resultLanes (normalW z .value) v a xy (leadingW z) Z)
+  drop-lt : drop < 2 ^ 64
+  drop-lt = xor-lt 64 (shrW (r .lanes) 16) th (shr-lt 64 (r .lanes) 16 lanes-word) (t .word)
 
-    -- the result's sign: a's, and plus where one of the two tests drops a minus
-    pub kept : ℕ
-    kept = ((isZero (empty a xy Z v) + isZero (cancels a xy (leadingW z))) % 2 + a / 2 ^ 63) % 2
+  under-word : under < 2 ^ 64
+  under-word = subst (λ (x : ℕ). x < 2 ^ 64) (sym (under-is e mu th xy he hm (t .word))) (omega arith)
 
-    closing-is : magnitude < 2 ^ 63 → closing a xy Z (leadingW z) (normalW z) ≡ signed kept magnitude
-    unfolding v T magnitude kept
-    closing-is h =
-        let t = result-tests (normalW z .value) v a xy (leadingW z) Z v-lt ha hx (leading-lt z) hZ in
-        ap (xorW magnitude) (sign-is a T ∙ ap₂ (λ (x y : ℕ). ((x + y) % 2 + a / 2 ^ 63) % 2 * 2 ^ 63) (t .3) (t .2))
-        ∙ xor-comm magnitude (kept * 2 ^ 63) ∙ xor-packed kept 63 magnitude h
+  drop-is : drop % 2 ≡ (isZero e * (xy / 2 ^ 63) + th % 2) % 2
+  drop-is = xor-parity (shrW (r .lanes) 16) th ∙ ap (λ (x : ℕ). (x % 2 + th % 2) % 2) (shr-is (r .lanes) 16) ∙ ap (λ (x : ℕ). (x + th % 2) % 2) (unlike-zeros e mu th xy lz he hm hx t)
 
-  -- z is not 0
-  module _ (z : ℕ) (h : z < 2 ^ 64) (p : 0 < z) where
-    pub v-some : v z ≡ lessW (expo a) (leadingZeros 64 z)
-    unfolding v exponentW
-    v-some = ap₂ lessW (exponent a) (normal-places z h p)
+  under-odd : under % 2 ≡ ((2 ^ 16 - 1) - ((2 ^ 16 - 1) - e + mu + 1) % 2 ^ 16) / 2 ^ 15 % 2
+  under-odd = ap (λ (x : ℕ). x % 2) (under-is e mu th xy he hm (t .word))
 
-    magnitude-some : magnitude z ≡ encoded z (expo a)
-    unfolding magnitude T
-    magnitude-some =
-        let t = result-tests (normalW z .value) (v z) a xy (leadingW z) Z (v-lt z) ha hx (leading-lt z) hZ in
-        let e : normalW z .value ≡ z * 2 ^ leadingZeros 64 z = normal-value z h p in
-        let top = to-top z p h in
-        let n = leading-some z h p in
-        ap (λ (x : ℕ). chosenW (roundedW x (v z) (T z)) (v z) (T z)) e
-        ∙ encoded-bits z (leadingZeros 64 z) (expo a) (v z) (T z) (top .0) (top .1) (omega arith) (omega arith) v-some (T-lt z)
-        (t .0 ∙ ap (λ (x : ℕ). isZero (dropped x)) e) (t .1)
+  -- E ≤ 0
+  ending-under : e < c → c < 2 ^ 12 → e < lz + 2046 → ending e mu w th xy sg ≡ signed (sg % 2 * (1 - drop % 2)) 0
+  ending-under l h k =
+      chosen-under (roundedW (packedW (lessW e mu (r .words)) w) w) sg under (r .lanes) drop under-word lanes-word drop-lt
+      (under-odd ∙ under-some e mu c he hm at l h) (over-none e mu th xy lz he hm hx t k)
 
-    some-lt : magnitude z < 2 ^ 63
-    some-lt = subst (λ (x : ℕ). x < 2 ^ 63) (sym magnitude-some) (encoded-lt (leadingZeros 64 z) z (expo a))
+  -- the count is that of leading zeros, and w has its top bit set
+  module _ (same : c ≡ lz) (lo : 2 ^ 63 ≤ w) (hi : w < 2 ^ 64) (l : lz ≤ e) where
+    c-le : c ≤ e
+    c-le = omega arith
 
-    pub closing-some : closing a xy Z (leadingW z) (normalW z) ≡ signed (kept z) (encoded z (expo a))
-    closing-some = closing-is z some-lt ∙ ap (λ (x : ℕ). kept z * 2 ^ 63 + x) magnitude-some
+    even : under % 2 ≡ 0
+    even = under-odd ∙ under-none e mu c he hm at c-le
 
-  -- z is 0
-  v-none : v 0 ≡ 2 ^ 64 - (2048 - expo a)
-  unfolding v exponentW
-  v-none = ap₂ lessW (exponent a) (normal-none .1) ∙ less-none (expo a) 2048 (omega arith) (omega arith)
+    ending-over : lz + 2046 ≤ e → ending e mu w th xy sg ≡ signed (sg % 2 * (1 - drop % 2)) (2047 * 2 ^ 52)
+    ending-over k = chosen-over (roundedW (packedW (lessW e mu (r .words)) w) w) sg under (r .lanes) drop under-word lanes-word drop-lt even (over-some e mu th xy lz he hm hx t k)
 
-  magnitude-none : magnitude 0 ≡ 0
-  unfolding magnitude T
-  magnitude-none =
-      let t = result-tests (normalW 0 .value) (v 0) a xy (leadingW 0) Z (v-lt 0) ha hx (leading-lt 0) hZ in
-      let w = v-none in
-      chosen-under (roundedW (normalW 0 .value) (v 0) (T 0)) (v 0) (T 0) (rounded-lt (normalW 0 .value) (v 0) (T 0)) (v-lt 0) (t .1) (omega arith)
-
-  pub closing-none : closing a xy Z (leadingW 0) (normalW 0) ≡ kept 0 * 2 ^ 63
-  closing-none = closing-is 0 (subst (λ (x : ℕ). x < 2 ^ 63) (sym magnitude-none) (pow-pos 63)) ∙ ap (λ (x : ℕ). kept 0 * 2 ^ 63 + x) magnitude-none ∙ add-zero (kept 0 * 2 ^ 63)
-
-  -- ---- the sign
-  module _ (z : ℕ) where
-    kept-by : (p q s : ℕ) → isZero (empty a xy Z (v z)) ≡ p → isZero (cancels a xy (leadingW z)) ≡ q → a / 2 ^ 63 ≡ s → kept z ≡ ((p + q) % 2 + s) % 2
-    unfolding kept
-    kept-by p q s e f g = ap₂ (λ (x y : ℕ). ((x + y) % 2 + a / 2 ^ 63) % 2) e f ∙ ap (λ (x : ℕ). ((p + q) % 2 + x) % 2) g
-
-    -- like signs
-    pub kept-like : xy / 2 ^ 63 ≡ 0 → kept z ≡ a / 2 ^ 63
-    unfolding empty cancels minus
-    kept-like e = kept-by 0 0 (a / 2 ^ 63) (not-zero _ (omega arith)) (not-zero _ (omega arith)) refl ∙ low (a / 2 ^ 63) (omega arith)
+    packed-at : e < lz + 2046 → packedW (lessW e mu (r .words)) w ≡ (e - lz) * 2 ^ 52 + w / 2 ^ 11
+    packed-at k =
+        let s : ℕ = ((2 ^ 16 - 1) - e + mu) % 2 ^ 16 in
+        ap (λ (x : ℕ). packedW x w) (less-is e mu th xy he hm (t .word)) ∙ packed-is s w (mod-lt ((2 ^ 16 - 1) - e + mu) (pow-pos 16))
+        ∙ ap (λ (x : ℕ). x % 2 ^ 11 * 2 ^ 52 + w / 2 ^ 11 % 2 ^ 52) (exponent-at e mu c he hm at c-le ∙ ap (λ (x : ℕ). e - x + 1) same)
+        ∙ top (e - lz) (w / 2 ^ 11) (omega arith) (omega arith) (omega arith)
       where
-        low : (x : ℕ) → x < 2 → (0 + x) % 2 ≡ x
-        low x h = omega arith
+        top : (d f : ℕ) → d < 2046 → 2 ^ 52 ≤ f → f < 2 ^ 53 → (d + 1) % 2 ^ 11 * 2 ^ 52 + f % 2 ^ 52 ≡ d * 2 ^ 52 + f
+        top d f h lo hi = omega arith
 
-    -- the larger is plus
-    pub kept-plus : a / 2 ^ 63 ≡ 0 → kept z ≡ 0
-    unfolding empty cancels minus
-    kept-plus e = kept-by 0 0 0 (not-zero _ (omega arith)) (not-zero _ (omega arith)) e
+    ending-some : e < lz + 2046 → ending e mu w th xy sg ≡ signed (sg % 2 * (1 - drop % 2)) ((e - lz) * 2 ^ 52 + roundNE w 11)
+    ending-some k =
+        let d : e - lz < 2046 = omega arith in
+        let Y : roundedW (packedW (lessW e mu (r .words)) w) w ≡ (e - lz) * 2 ^ 52 + roundNE w 11 =
+        ap (λ (x : ℕ). roundedW x w) (packed-at k) ∙ rounded-is (e - lz) w (room (e - lz) w d hi) hi in
+        let q : roundNE w 11 ≤ 2 ^ 53 = round-top w lo hi .1 in
+        chosen-some (roundedW (packedW (lessW e mu (r .words)) w) w) sg under (r .lanes) drop under-word lanes-word drop-lt even (over-none e mu th xy lz he hm hx t k)
+        ∙ ap (signed (sg % 2 * (1 - drop % 2))) (ap (λ (x : ℕ). x % 2 ^ 63) Y ∙ mod-eq-of-lt (fits (e - lz) (roundNE w 11) d q))
+      where
+        room : (d w : ℕ) → d < 2046 → w < 2 ^ 64 → d * 2 ^ 52 + w / 2 ^ 11 < 2 ^ 63
+        room d w h l = omega arith
 
-    -- the larger is minus, and the signs differ
-    module _ (s : a / 2 ^ 63 ≡ 1) (d : xy / 2 ^ 63 ≡ 1) where
-      pub kept-cancel : bit (leadingW z) 0 ≡ 1 → bit Z 32 ≡ 0 → kept z ≡ 0
-      unfolding empty cancels minus
-      kept-cancel l b = kept-by 0 1 1 (not-zero _ (omega arith)) (vanished _ (omega arith)) s
+        fits : (d q : ℕ) → d < 2046 → q ≤ 2 ^ 53 → d * 2 ^ 52 + q < 2 ^ 63
+        fits d q h l = omega arith
 
-      pub kept-empty : bit (leadingW z) 0 ≡ 0 → bit Z 32 ≡ 1 → v z / 2 ^ 63 ≡ 1 → kept z ≡ 0
-      unfolding empty cancels minus
-      kept-empty l b n = kept-by 1 0 1 (vanished _ (omega arith)) (not-zero _ (omega arith)) s
+leads : (z : ℕ) → z < 2 ^ 64 → Leads (leadingZeros 64 z) (leadingW z)
+leads z h = record { word = leading-lt z; first = leading-first z h; second = leading-second z h }
 
-      pub kept-some : bit (leadingW z) 0 ≡ 0 → (bit Z 32 ≡ 0) ⊎ (v z / 2 ^ 63 ≡ 0) → kept z ≡ 1
-      unfolding empty cancels minus
-      kept-some l (inl b) = kept-by 0 0 1 (not-zero _ (omega arith)) (not-zero _ (omega arith)) s
-      kept-some l (inr n) = kept-by 0 0 1 (not-zero _ (omega arith)) (not-zero _ (omega arith)) s
+-- ---- z is not 0
+module _ (a xy sg z : ℕ) (hx : xy < 2 ^ 64) (p : 0 < z) (h : z < 2 ^ 64) where
+  abbrev e : ℕ
+  e = expo a
 
--- ---- leading zeros of a number below 2^63, and of one from 2^62 on
-pub lowest-none : (z : ℕ) → z < 2 ^ 64 → 0 < z → bit (leadingW z) 0 ≡ 0
-lowest-none z h p = ap (λ (x : ℕ). x % 2) (div-one (leadingW z)) ∙ leading-odd z h ∙ under (leadingZeros 64 z) (leading-some z h p)
+  abbrev lz : ℕ
+  lz = leadingZeros 64 z
+
+  abbrev mu : ℕ
+  mu = normalW z .count
+
+  counted : (mu < 2 ^ 16) × ((mu + 1) % 2 ^ 16 ≡ lz)
+  counted =
+      elim (eq-zero-or-pos lz) [
+        | inl k ↦ let f : mu ≡ 2 ^ 16 - 1 = normal-none z h k in (omega arith, ap (λ (x : ℕ). (x + 1) % 2 ^ 16) f ∙ sym k)
+        | inr k ↦
+            let l : lz < 64 = leading-some z h p in
+            let f : mu ≡ lz - 1 = normal-places z h k l in
+            (omega arith, omega arith)
+      ]
+
+  abbrev th : ℕ
+  th = leadingW z
+
+  abbrev w : ℕ
+  w = z * 2 ^ lz
+
+  abbrev S : ℕ
+  S = sg % 2 * (1 - xorW (shrW (exponentRun e mu th xy .lanes) 16) th % 2)
+
+  ending-is : ending e mu w th xy sg ≡ signed S (encoded z e)
+  unfolding encodedAt
+  ending-is =
+      let top = to-top z p h in
+      let b = round-top w (top .0) (top .1) in
+      let n : lz < 64 = leading-some z h p in
+      let he : e < 2 ^ 11 = omega arith in
+      elim (lt-or-ge e lz) [
+        | inl l ↦
+            ending-under e mu w th xy sg lz lz he (counted .0) hx (leads z h) (counted .1) l (omega arith) (omega arith)
+            ∙ ap (signed S) (sym (if-lt e lz 0 (packed (e - lz) (roundNE w 11)) l))
+        | inr l ↦
+            elim (lt-or-ge e (lz + 2046)) [
+              | inl k ↦
+                  ending-some e mu w th xy sg lz lz he (counted .0) hx (leads z h) (counted .1) refl (top .0) (top .1) l k
+                  ∙ ap (signed S) (small (e - lz) (roundNE w 11) (omega arith) (b .1))
+              | inr k ↦
+                  ending-over e mu w th xy sg lz lz he (counted .0) hx (leads z h) (counted .1) refl (top .0) (top .1) l k
+                  ∙ ap (signed S) (large (e - lz) (roundNE w 11) (omega arith) (b .0))
+            ]
+            ∙ ap (signed S) (sym (if-not-lt e lz 0 (packed (e - lz) (roundNE w 11)) l))
+      ]
+    where
+      small : (d q : ℕ) → d < 2046 → q ≤ 2 ^ 53 → d * 2 ^ 52 + q ≡ packed d q
+      small d q g h = omega arith
+
+      large : (d q : ℕ) → 2046 ≤ d → 2 ^ 52 ≤ q → 2047 * 2 ^ 52 ≡ packed d q
+      large d q g h = omega arith
+
+  sign-is : S ≡ sg % 2 * (1 - isZero (expo a) * (xy / 2 ^ 63))
+  sign-is =
+      let n : lz < 64 = leading-some z h p in
+      let o : th % 2 ≡ 0 = leading-odd z h ∙ omega arith in
+      ap (λ (x : ℕ). sg % 2 * (1 - x))
+      (drop-is e mu w th xy sg lz lz (omega arith) (counted .0) hx (leads z h) (counted .1) ∙ ap (λ (x : ℕ). (isZero e * (xy / 2 ^ 63) + x) % 2) o ∙ once e (xy / 2 ^ 63) (omega arith))
+    where
+      once : (e s : ℕ) → s < 2 → (isZero e * s + 0) % 2 ≡ isZero e * s
+      once e s l = digit (λ s. (isZero e * s + 0) % 2 ≡ isZero e * s) (omega arith) (omega arith) s l
+
+pub closing-some : (a xy sg z : ℕ) → a < 2 ^ 64 → xy < 2 ^ 64 → sg < 2 ^ 64 → 0 < z → z < 2 ^ 64
+    → finishW a xy sg z ≡ signed (sg % 2 * (1 - isZero (expo a) * (xy / 2 ^ 63))) (encoded z (expo a))
+unfolding finishW exponentW
+closing-some a xy sg z ha hx hs p h =
+    ap (λ (x : ℕ). ending x (normalW z .count) (normalW z .value) (leadingW z) xy sg) (exponent a)
+    ∙ ap (λ (x : ℕ). ending (expo a) (normalW z .count) x (leadingW z) xy sg) (normal-value z h p)
+    ∙ ending-is a xy sg z hx p h ∙ ap (λ (x : ℕ). signed x (encoded z (expo a))) (sign-is a xy sg z hx p h)
+
+-- ---- z is 0
+pub closing-none : (a xy sg : ℕ) → a < 2 ^ 64 → xy < 2 ^ 64 → sg < 2 ^ 64 → (expo a ≡ 0 → ⊥) → finishW a xy sg 0 ≡ 0
+unfolding finishW exponentW
+closing-none a xy sg ha hx hs n =
+    let h : 0 < 2 ^ 64 = pow-pos 64 in
+    let e : ℕ = expo a in
+    let he : e < 2 ^ 11 = omega arith in
+    let mu : ℕ = normalW 0 .count in
+    let th : ℕ = leadingW 0 in
+    let w : ℕ = normalW 0 .value in
+    let f : mu ≡ 2 ^ 11 + 63 = normal-zero in
+    let k : leadingZeros 64 0 ≡ 64 = leading-of-zero 64 in
+    let t : Leads 64 th = subst (λ (x : ℕ). Leads x th) k (leads 0 h) in
+    let hm : mu < 2 ^ 16 = omega arith in
+    let c : (mu + 1) % 2 ^ 16 ≡ 2 ^ 11 + 64 = ap (λ (x : ℕ). (x + 1) % 2 ^ 16) f in
+    let o : th % 2 ≡ 1 = leading-odd 0 h ∙ ap (λ (x : ℕ). x / 64) k in
+    let d : xorW (shrW (exponentRun e mu th xy .lanes) 16) th % 2 ≡ 1 =
+    drop-is e mu w th xy sg 64 (2 ^ 11 + 64) he hm hx t c
+    ∙ ap₂ (λ (x y : ℕ). (x * (xy / 2 ^ 63) + y) % 2) (not-zero e (positive e n)) o ∙ ap (λ (x : ℕ). (x + 1) % 2) (zero-mul (xy / 2 ^ 63)) in
+    ap (λ (x : ℕ). ending x mu w th xy sg) (exponent a)
+    ∙ ending-under e mu w th xy sg 64 (2 ^ 11 + 64) he hm hx t c (omega arith) (omega arith) (omega arith)
+    ∙ ap (λ (x : ℕ). signed (sg % 2 * (1 - x)) 0) d ∙ ap (λ (x : ℕ). signed x 0) (mul-zero (sg % 2))
   where
-    under : (n : ℕ) → n < 64 → n / 64 ≡ 0
-    under n l = omega arith
-
-pub lowest-all : bit (leadingW 0) 0 ≡ 1
-lowest-all = ap (λ (x : ℕ). x % 2) (div-one (leadingW 0)) ∙ leading-odd 0 (pow-pos 64) ∙ ap (λ (n : ℕ). n / 64) (leading-of-zero 64)
-
-pub one-zero : (z : ℕ) → 2 ^ 62 ≤ z → z < 2 ^ 63 → leadingZeros 64 z ≡ 1
-one-zero z lo hi =
-    let t = leading-top 64 z (omega arith) (omega arith) in
-    let j : t .0 < 63 = pow-lt-back (t .0) 63 (lt-of-le-of-lt (t .2) hi) in
-    let k : 62 < suc (t .0) = pow-lt-back 62 (suc (t .0)) (lt-of-le-of-lt lo (t .3)) in
-    omega (arith, t .1)
+    positive : (e : ℕ) → (e ≡ 0 → ⊥) → 0 < e
+    positive e n = elim (eq-zero-or-pos e) [ inl z ↦ absurd (n z) | inr p ↦ p ]

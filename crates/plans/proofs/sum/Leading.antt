@@ -1,19 +1,20 @@
 -- The sum's plan, the leading zeros of z: z smeared to the right has ones from its top bit down, and NOT leaves ones at its leading zeros.
--- Folded over 2^k, their bit 0 is bit k of their count. Rests on bits' Places and lib.Count.
+-- Folded over 2^k, their bit 0 is bit k of their count, and twice them, folded so, have the bits of the count less 1. Rests on bits' Places and lib.Count.
 use mathlib.Core.Path.{_≡_, refl, sym, ap, ap₂, _∙_, subst}
 use mathlib.Core.Logic.{_⊎_, inl, inr}
 use Prim.Native.Nat.{ℕ, zero, suc, _+_, _-_, _*_, _/_, _%_, _^_, _≤_, _<_, min, max}
 use native.Mathlib.Nat.{mod-eq-of-lt, add-comm, zero-mul, lt-of-le-of-lt, div-eq-of-lt, mul-pos, zero-lt-suc, div-div-eq-div-mul, le-div-iff-mul-le, one-mul, eq-zero-or-pos, add-mod, div-le-self, add-div-right}
+use native.Mathlib.Numerals.{one-add}
 use native.Mathlib.Omega.{arith}
 use lib.Bits.{differ}
-use lib.Count.{leadingZeros, leading-of-zero, leading-top}
+use lib.Count.{leadingZeros, leading-le, leading-of-zero, leading-top}
 use lib.Pow.{pow-pos, shr-shr, mod-pow-add}
 use Rattle.bits.specs.Ops.{xorW, andW, notW, shlW, shrW}
 use Rattle.bits.proofs.Digits.{digit, bit-lt, bit}
 use Rattle.bits.proofs.Shift.{shl-zero}
 use Rattle.bits.proofs.Bound.{xor-lt, and-lt, shr-lt, not-lt}
 use Rattle.bits.proofs.Parity.{xor-bit}
-use Rattle.bits.proofs.Places.{bit-xor, bit-and, bit-shr, bit-not}
+use Rattle.bits.proofs.Places.{bit-xor, bit-and, bit-shr, bit-shl, bit-shl-low, bit-not}
 use Rattle.binary64.proofs.Cases.{pow-lt-back, lt-or-ge}
 use Rattle.plans.proofs.Lanes.{isZero}
 use Rattle.plans.proofs.sum.Run.{orShr, leadingW, foldW}
@@ -130,3 +131,15 @@ fold-start z h i l = leading-bit z h i l ∙ go (eq-zero-or-pos z)
               let j : i < suc (t .0) = pow-lt-back i (suc (t .0)) (lt-of-le-of-lt g (t .3)) in
               none (z / 2 ^ i) (leadingZeros 64 z + i) (le-div-iff-mul-le (pow-pos i) .1 (subst (λ (x : ℕ). x ≤ z) (sym (one-mul (2 ^ i))) g)) (omega (arith, t .1))
         ]
+
+-- one place further up the count reaches it one later; where there are no leading zeros there is nothing to count
+pub fold-twice : (z : ℕ) → z < 2 ^ 64 → Folds (leadingZeros 64 z - 1) 64 (shlW (leadingW z) 1)
+fold-twice z h zero l = bit-shl-low (leadingW z) 1 0 (omega arith) ∙ below (leadingZeros 64 z) (leading-le 64 z)
+  where
+    below : (n : ℕ) → n ≤ 64 → 0 ≡ (n - 1 + 0) / 64 % 2
+    below n g = omega arith
+fold-twice z h (suc i) l =
+    ap (bit (shlW (leadingW z) 1)) (sym (one-add i)) ∙ bit-shl (leadingW z) 1 i (omega arith) ∙ fold-start z h i (omega arith) ∙ later (leadingZeros 64 z) l
+  where
+    later : (n : ℕ) → suc i < 64 → (n + i) / 64 % 2 ≡ (n - 1 + suc i) / 64 % 2
+    later n g = omega arith

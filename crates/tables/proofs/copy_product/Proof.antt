@@ -15,10 +15,10 @@ use Rattle.tables.proofs.copy_product.Statement.{statement}
 use Rattle.tables.proofs.copy_product.Tie as tie
 
 abbrev Inv-loop : tie.InvT-loop
-Inv-loop out₀ i₀ out i = (i ≤ 810) × (length out ≡ length out₀) × Copied productPlan out₀ i out
+Inv-loop out₀ i₀ out i = (i ≤ 948) × (length out ≡ length out₀) × Copied productPlan out₀ i out
 
 abbrev μ-loop : tie.MeasureT-loop
-μ-loop out₀ i₀ out i = 810 - i
+μ-loop out₀ i₀ out i = 948 - i
 
 returns : tie.Need-returns Inv-loop μ-loop
 returns c =

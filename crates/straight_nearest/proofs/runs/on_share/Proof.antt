@@ -16,13 +16,13 @@ returns : tie.Need-returns
 returns c = rw (c .before .before .before .before .before .before .before .before .before .before .before .before .before .before .before .before .before .before .before .before .match .keys1, c .before .before .linear .ensures, c .before .before .before .before .before .before .sixteen4 .ensures, c .before .before .before .before .before .before .before .before .before .before .sixteen3 .ensures, c .before .before .before .before .before .before .before .before .before .before .before .before .before .before .sixteen2 .ensures, c .before .before .before .before .before .before .before .before .before .before .before .before .before .before .before .before .before .before .sixteen .ensures)
 
 returns-2 : tie.Need-returns-2
-returns-2 c = rw (c .before .before .before .before .before .before .before .before .before .before .before .before .before .before .before .before .match .keys2, c .before .before .linear2 .ensures, c .before .before .before .before .before .before .two .ensures, c .before .before .before .before .before .before .before .before .before .before .four .ensures, c .before .before .before .before .before .before .before .before .before .before .before .before .before .before .sixteen5 .ensures)
+returns-2 c = in-order (1342970423 ∷ 1343232564 ∷ 1614027276 ∷ 1611663421 ∷ 1611925505 ∷ 538445830 ∷ 1343227967 ∷ 1075317760 ∷ 1344015423 ∷ 1612451390 ∷ 1611663423 ∷ 537921543 ∷ 1612188673 ∷ 1343753279 ∷ 1343227913 ∷ 1345591820 ∷ 1611400759 ∷ 1612188734 ∷ 540280333 ∷ 538184709 ∷ 1343490569 ∷ 539232777 ∷ 540280845 ∷ []) (getD runs 1 lastRun) (c .before .before .before .before .before .before .before .before .before .before .before .before .before .before .before .before .before .before .args .i) (now (c .before .before .before .before .before .before .before .before .before .before .before .before .before .before .before .before .before .before .args .cells)) (rw (c .before .before .linear2 .ensures, c .before .before .before .before .before .before .two .ensures, c .before .before .before .before .before .before .before .before .before .before .four .ensures, c .before .before .before .before .before .before .before .before .before .before .before .before .before .before .sixteen5 .ensures)) (ap (λ (k : ℕ). getD runs k lastRun) (c .before .before .before .before .before .before .before .before .before .before .before .before .before .before .before .before .match .keys2)) tt
 
 returns-3 : tie.Need-returns-3
-returns-3 c = in-order (1611935236 ∷ 1342970423 ∷ 1611400759 ∷ 1343232564 ∷ 1611663421 ∷ 1343227913 ∷ 1614027276 ∷ 1345591820 ∷ 540285443 ∷ 1615600140 ∷ 1345854008 ∷ 1614289976 ∷ 1342970888 ∷ 540548099 ∷ 1347167756 ∷ 1342970896 ∷ 540548099 ∷ 1342970912 ∷ 540548099 ∷ 1342970423 ∷ 1611400767 ∷ 1615862796 ∷ 541861379 ∷ 1347430412 ∷ 1342965249 ∷ 541861379 ∷ 541861380 ∷ 1342970942 ∷ 1611400766 ∷ 542124035 ∷ 1342966273 ∷ 538184195 ∷ 269221889 ∷ 538184195 ∷ 1343490569 ∷ 542124037 ∷ []) (getD runs 2 lastRun) (c .before .before .before .before .before .before .before .before .before .before .before .before .before .before .args .i) (now (c .before .before .before .before .before .before .before .before .before .before .before .before .before .before .args .cells)) (rw (c .before .before .four2 .ensures, c .before .before .before .before .before .before .sixteen7 .ensures, c .before .before .before .before .before .before .before .before .before .before .sixteen6 .ensures)) (ap (λ (k : ℕ). getD runs k lastRun) (c .before .before .before .before .before .before .before .before .before .before .before .before .match .keys3)) tt
+returns-3 c = in-order (1343232564 ∷ 1342970423 ∷ 1611400759 ∷ 1614027276 ∷ 1611663421 ∷ 1345591820 ∷ 540280333 ∷ 1345854008 ∷ 1614289976 ∷ 1615600140 ∷ 1342970888 ∷ 540542478 ∷ 1342970896 ∷ 540548099 ∷ 1342970912 ∷ 1347167756 ∷ 540542478 ∷ 1342970423 ∷ 1611400767 ∷ 541853203 ∷ 1342965249 ∷ 541853203 ∷ 1343227913 ∷ 541861380 ∷ 1615862796 ∷ 1342970942 ∷ 1611935236 ∷ 1347430412 ∷ 1611400766 ∷ 542115348 ∷ 1342966273 ∷ 538184195 ∷ 269221889 ∷ 538184195 ∷ 1343490569 ∷ 542116372 ∷ []) (getD runs 2 lastRun) (c .before .before .before .before .before .before .before .before .before .before .before .before .before .before .args .i) (now (c .before .before .before .before .before .before .before .before .before .before .before .before .before .before .args .cells)) (rw (c .before .before .four2 .ensures, c .before .before .before .before .before .before .sixteen7 .ensures, c .before .before .before .before .before .before .before .before .before .before .sixteen6 .ensures)) (ap (λ (k : ℕ). getD runs k lastRun) (c .before .before .before .before .before .before .before .before .before .before .before .before .match .keys3)) tt
 
 returns-4 : tie.Need-returns-4
-returns-4 c = in-order (1342970423 ∷ 1343232564 ∷ 1611663421 ∷ 1611400759 ∷ 1614027276 ∷ 1611925505 ∷ 1880361472 ∷ 1345591820 ∷ 1343490572 ∷ 540285443 ∷ 1343227967 ∷ 1611663423 ∷ 538184196 ∷ 1343227905 ∷ 538184196 ∷ []) (getD runs 3 lastRun) (c .before .before .before .before .before .before .before .before .before .before .before .before .before .before .before .before .before .before .args .i) (now (c .before .before .before .before .before .before .before .before .before .before .before .before .before .before .before .before .before .before .args .cells)) (rw (c .before .before .linear3 .ensures, c .before .before .before .before .before .before .two2 .ensures, c .before .before .before .before .before .before .before .before .before .before .four3 .ensures, c .before .before .before .before .before .before .before .before .before .before .before .before .before .before .eight .ensures)) (ap (λ (k : ℕ). getD runs k lastRun) (c .before .before .before .before .before .before .before .before .before .before .before .before .before .before .before .before .match .keys4)) tt
+returns-4 c = in-order (1343232564 ∷ 1342970423 ∷ 1614027276 ∷ 1611663421 ∷ 1611400759 ∷ 1611925505 ∷ 1880361472 ∷ 1343490572 ∷ 1343227967 ∷ 1345591820 ∷ 1611663423 ∷ 538184196 ∷ 1343227905 ∷ 538183685 ∷ 540285443 ∷ []) (getD runs 3 lastRun) (c .before .before .before .before .before .before .before .before .before .before .before .before .before .before .before .before .before .before .args .i) (now (c .before .before .before .before .before .before .before .before .before .before .before .before .before .before .before .before .before .before .args .cells)) (rw (c .before .before .linear3 .ensures, c .before .before .before .before .before .before .two2 .ensures, c .before .before .before .before .before .before .before .before .before .before .four3 .ensures, c .before .before .before .before .before .before .before .before .before .before .before .before .before .before .eight .ensures)) (ap (λ (k : ℕ). getD runs k lastRun) (c .before .before .before .before .before .before .before .before .before .before .before .before .before .before .before .before .match .keys4)) tt
 
 returns-5 : tie.Need-returns-5
 returns-5 c = rw (c .before .before .before .before .before .before .before .before .match .keys5, c .before .before .eight2 .ensures, c .before .before .before .before .before .before .sixteen8 .ensures)
@@ -43,7 +43,7 @@ returns-10 : tie.Need-returns-10
 returns-10 c = rw (c .before .before .before .before .before .before .before .before .before .before .before .before .match .keys10, c .before .before .two5 .ensures, c .before .before .before .before .before .before .four7 .ensures, c .before .before .before .before .before .before .before .before .before .before .eight5 .ensures)
 
 returns-11 : tie.Need-returns-11
-returns-11 c = in-order (1343235640 ∷ 1611663416 ∷ 541598724 ∷ 541861380 ∷ 541336083 ∷ 1347428868 ∷ 1343235128 ∷ 537666066 ∷ 1611663420 ∷ 1342965308 ∷ 1611400764 ∷ 541860355 ∷ 1078732288 ∷ 542124036 ∷ []) (getD runs 10 lastRun) (c .before .before .before .before .before .before .before .before .before .before .before .before .before .before .args .i) (now (c .before .before .before .before .before .before .before .before .before .before .before .before .before .before .args .cells)) (rw (c .before .before .two6 .ensures, c .before .before .before .before .before .before .four8 .ensures, c .before .before .before .before .before .before .before .before .before .before .eight6 .ensures)) (ap (λ (k : ℕ). getD runs k lastRun) (c .before .before .before .before .before .before .before .before .before .before .before .before .match .keys11)) tt
+returns-11 c = rw (c .before .before .before .before .before .before .before .before .before .before .before .before .match .keys11, c .before .before .two6 .ensures, c .before .before .before .before .before .before .four8 .ensures, c .before .before .before .before .before .before .before .before .before .before .eight6 .ensures)
 
 returns-12 : tie.Need-returns-12
 returns-12 c = rw (c .before .before .before .before .before .before .before .before .before .before .before .before .match .keys12, c .before .before .two7 .ensures, c .before .before .before .before .before .before .four9 .ensures, c .before .before .before .before .before .before .before .before .before .before .eight7 .ensures)

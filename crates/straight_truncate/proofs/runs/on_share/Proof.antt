@@ -16,13 +16,13 @@ returns : tie.Need-returns
 returns c = rw (c .before .before .before .before .before .before .before .before .before .before .before .before .before .before .before .before .before .before .before .before .match .keys1, c .before .before .linear .ensures, c .before .before .before .before .before .before .sixteen4 .ensures, c .before .before .before .before .before .before .before .before .before .before .sixteen3 .ensures, c .before .before .before .before .before .before .before .before .before .before .before .before .before .before .sixteen2 .ensures, c .before .before .before .before .before .before .before .before .before .before .before .before .before .before .before .before .before .before .sixteen .ensures)
 
 returns-2 : tie.Need-returns-2
-returns-2 c = in-order (1343232564 ∷ 1342970423 ∷ 1611663421 ∷ 1611400759 ∷ 1614027276 ∷ 1345591820 ∷ 538446852 ∷ 1611925505 ∷ 540285443 ∷ 1075317760 ∷ 1344015423 ∷ 1612451390 ∷ 1612188673 ∷ 1343753279 ∷ 1612188734 ∷ 1343227967 ∷ 538184198 ∷ 1611663423 ∷ 537921543 ∷ 1343490569 ∷ 1343227913 ∷ 539234821 ∷ 540285444 ∷ []) (getD runs 1 lastRun) (c .before .before .before .before .before .before .before .before .before .before .before .before .before .before .before .before .before .before .args .i) (now (c .before .before .before .before .before .before .before .before .before .before .before .before .before .before .before .before .before .before .args .cells)) (rw (c .before .before .linear2 .ensures, c .before .before .before .before .before .before .two .ensures, c .before .before .before .before .before .before .before .before .before .before .four .ensures, c .before .before .before .before .before .before .before .before .before .before .before .before .before .before .sixteen5 .ensures)) (ap (λ (k : ℕ). getD runs k lastRun) (c .before .before .before .before .before .before .before .before .before .before .before .before .before .before .before .before .match .keys2)) tt
+returns-2 c = in-order (1343232564 ∷ 1342970423 ∷ 1611663421 ∷ 1611400759 ∷ 1614027276 ∷ 1611925505 ∷ 1345591820 ∷ 538446852 ∷ 1075317760 ∷ 1343227967 ∷ 1344015423 ∷ 540280333 ∷ 1611663423 ∷ 1612451390 ∷ 1612188673 ∷ 1343753279 ∷ 1612188734 ∷ 538184709 ∷ 537923076 ∷ 1343227913 ∷ 540285444 ∷ 1343490569 ∷ 539232777 ∷ []) (getD runs 1 lastRun) (c .before .before .before .before .before .before .before .before .before .before .before .before .before .before .before .before .before .before .args .i) (now (c .before .before .before .before .before .before .before .before .before .before .before .before .before .before .before .before .before .before .args .cells)) (rw (c .before .before .linear2 .ensures, c .before .before .before .before .before .before .two .ensures, c .before .before .before .before .before .before .before .before .before .before .four .ensures, c .before .before .before .before .before .before .before .before .before .before .before .before .before .before .sixteen5 .ensures)) (ap (λ (k : ℕ). getD runs k lastRun) (c .before .before .before .before .before .before .before .before .before .before .before .before .before .before .before .before .match .keys2)) tt
 
 returns-3 : tie.Need-returns-3
-returns-3 c = in-order (1343232564 ∷ 1611663421 ∷ 1342970423 ∷ 1611400759 ∷ 1343227913 ∷ 1614027276 ∷ 1345591820 ∷ 540285443 ∷ 1611935236 ∷ 1345854008 ∷ 1614289976 ∷ 1342970888 ∷ 540548099 ∷ 1342970896 ∷ 540548099 ∷ 1615600140 ∷ 1342970912 ∷ 540548099 ∷ 1347167756 ∷ 1615862796 ∷ 1342970423 ∷ 1611400767 ∷ 541861379 ∷ 1342965249 ∷ 541861379 ∷ 1347430412 ∷ 1342970942 ∷ 1611400766 ∷ 542124035 ∷ 541861380 ∷ 1342966273 ∷ 538184195 ∷ 269221889 ∷ 538184195 ∷ 1343490569 ∷ 542124037 ∷ []) (getD runs 2 lastRun) (c .before .before .before .before .before .before .before .before .before .before .before .before .before .before .args .i) (now (c .before .before .before .before .before .before .before .before .before .before .before .before .before .before .args .cells)) (rw (c .before .before .four2 .ensures, c .before .before .before .before .before .before .sixteen7 .ensures, c .before .before .before .before .before .before .before .before .before .before .sixteen6 .ensures)) (ap (λ (k : ℕ). getD runs k lastRun) (c .before .before .before .before .before .before .before .before .before .before .before .before .match .keys3)) tt
+returns-3 c = in-order (1342970423 ∷ 1343232564 ∷ 1611935236 ∷ 1611663421 ∷ 1611400759 ∷ 1614027276 ∷ 1345591820 ∷ 1343227913 ∷ 540280333 ∷ 1345854008 ∷ 1615600140 ∷ 1614289976 ∷ 1342970888 ∷ 540542478 ∷ 1342970896 ∷ 540548099 ∷ 1342970912 ∷ 540548099 ∷ 1347167756 ∷ 1342970423 ∷ 1611400767 ∷ 541861379 ∷ 1615862796 ∷ 1342965249 ∷ 541861379 ∷ 1347430412 ∷ 1342970942 ∷ 1611400766 ∷ 541861380 ∷ 542124035 ∷ 1342966273 ∷ 538183173 ∷ 269221889 ∷ 538184195 ∷ 1343490569 ∷ 542124037 ∷ []) (getD runs 2 lastRun) (c .before .before .before .before .before .before .before .before .before .before .before .before .before .before .args .i) (now (c .before .before .before .before .before .before .before .before .before .before .before .before .before .before .args .cells)) (rw (c .before .before .four2 .ensures, c .before .before .before .before .before .before .sixteen7 .ensures, c .before .before .before .before .before .before .before .before .before .before .sixteen6 .ensures)) (ap (λ (k : ℕ). getD runs k lastRun) (c .before .before .before .before .before .before .before .before .before .before .before .before .match .keys3)) tt
 
 returns-4 : tie.Need-returns-4
-returns-4 c = in-order (1342970423 ∷ 1611400759 ∷ 1343232564 ∷ 1611663421 ∷ 1614027276 ∷ 1345591820 ∷ 1611925505 ∷ 1880361472 ∷ 1343490572 ∷ 540285443 ∷ 1343227967 ∷ 1611663423 ∷ 538184196 ∷ 1343227905 ∷ 538184196 ∷ []) (getD runs 3 lastRun) (c .before .before .before .before .before .before .before .before .before .before .before .before .before .before .before .before .before .before .args .i) (now (c .before .before .before .before .before .before .before .before .before .before .before .before .before .before .before .before .before .before .args .cells)) (rw (c .before .before .linear3 .ensures, c .before .before .before .before .before .before .two2 .ensures, c .before .before .before .before .before .before .before .before .before .before .four3 .ensures, c .before .before .before .before .before .before .before .before .before .before .before .before .before .before .eight .ensures)) (ap (λ (k : ℕ). getD runs k lastRun) (c .before .before .before .before .before .before .before .before .before .before .before .before .before .before .before .before .match .keys4)) tt
+returns-4 c = in-order (1343232564 ∷ 1611663421 ∷ 1611925505 ∷ 1342970423 ∷ 1343227967 ∷ 1614027276 ∷ 1611400759 ∷ 1345591820 ∷ 1880361472 ∷ 540280333 ∷ 1343490572 ∷ 1611663423 ∷ 538183685 ∷ 1343227905 ∷ 538183685 ∷ []) (getD runs 3 lastRun) (c .before .before .before .before .before .before .before .before .before .before .before .before .before .before .before .before .before .before .args .i) (now (c .before .before .before .before .before .before .before .before .before .before .before .before .before .before .before .before .before .before .args .cells)) (rw (c .before .before .linear3 .ensures, c .before .before .before .before .before .before .two2 .ensures, c .before .before .before .before .before .before .before .before .before .before .four3 .ensures, c .before .before .before .before .before .before .before .before .before .before .before .before .before .before .eight .ensures)) (ap (λ (k : ℕ). getD runs k lastRun) (c .before .before .before .before .before .before .before .before .before .before .before .before .before .before .before .before .match .keys4)) tt
 
 returns-5 : tie.Need-returns-5
 returns-5 c = rw (c .before .before .before .before .before .before .before .before .before .before .before .before .match .keys5, c .before .before .linear4 .ensures, c .before .before .before .before .before .before .eight2 .ensures, c .before .before .before .before .before .before .before .before .before .before .sixteen8 .ensures)

@@ -1,13 +1,13 @@
 -- `tables::product_rows::tail` meets its contract: the table is the tail's words, by computation.
 use mathlib.Core.Path.{refl}
 use Rattle.word.specs.Encoding.{put}
-use Rattle.plans.specs.ProductPlan.{carryRow, withExponents, highHalf, normalise, sticky, tests, roundPack, choose, productEnd, productTail}
+use Rattle.plans.specs.ProductPlan.{lastRows, productEnd, productTail}
 use Rattle.plans.specs.ProductRows.{tailWords}
 use Rattle.tables.proofs.product_rows.tail.Statement.{statement}
 use Rattle.tables.proofs.product_rows.tail.Tie as tie
 
 returns : tie.Need-returns
-unfolding tailWords carryRow withExponents highHalf normalise sticky tests roundPack choose productEnd productTail put
+unfolding tailWords lastRows productEnd productTail put
 returns c = refl
 
 pub tail-spec : {M : Type 1} → statement M

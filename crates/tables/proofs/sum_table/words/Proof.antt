@@ -1,12 +1,12 @@
 -- `tables::sum_table::words` meets its contract: the table is the plan's words, by computation.
 use mathlib.Core.Path.{refl}
 use Rattle.word.specs.Encoding.{put}
-use Rattle.plans.specs.SumPlan.{sumPlan, orderSteps, significandSteps, shiftRight, smallShifts, shiftKeeping, largeShifts, lostSteps, alignTests, alignSteps, addSteps, smearStage, smearSteps, shiftLeft, normaliseSteps, exponentSteps, resultTests, roundSteps, chooseSteps, alignPart, normalPart, resultPart, sumSteps}
+use Rattle.plans.specs.SumPlan.{sumPlan}
 use Rattle.tables.proofs.sum_table.words.Statement.{statement}
 use Rattle.tables.proofs.sum_table.words.Tie as tie
 
 returns : tie.Need-returns
-unfolding sumPlan orderSteps significandSteps shiftRight smallShifts shiftKeeping largeShifts lostSteps alignTests alignSteps addSteps smearStage smearSteps shiftLeft normaliseSteps exponentSteps resultTests roundSteps chooseSteps alignPart normalPart resultPart sumSteps put
+unfolding sumPlan put
 returns c = refl
 
 pub words-spec : {M : Type 1} → statement M

@@ -68,8 +68,8 @@ mul-needed-3 c =
     let g = c .before .before .before .before .before .before .before .args in
     let r = share-range (c .before .before .before .before .before .before .before .args .n) (sym (c .before .before .before .before .before .before .is-share-count .ensures) ∙ not-false _ (c .before .before .before .before .before .if1 .left)) in
     let S = sizes _ _ (sym (c .before .before .before .before .is-layer .ensures) ∙ not-false _ (c .before .before .before .if2 .left)) in
-    let units : 842 * (g .n * (g .n - 1)) ≤ 47152 = omega (arith, pairs-most (g .n) (r .1)) in
-    let most : g .count / 2 * (842 * (g .n * (g .n - 1))) ≤ 1024 * 47152 = mul-le-mul {n₁ = g .count / 2} {n₂ = 1024} (omega (arith, S .most, div-le-self (g .count) 2)) units in
+    let units : 622 * (g .n * (g .n - 1)) ≤ 34832 = omega (arith, pairs-most (g .n) (r .1)) in
+    let most : g .count / 2 * (622 * (g .n * (g .n - 1))) ≤ 1024 * 34832 = mul-le-mul {n₁ = g .count / 2} {n₂ = 1024} (omega (arith, S .most, div-le-self (g .count) 2)) units in
     omega arith
 
 returns-6 : tie.Need-returns-6
