@@ -45,7 +45,7 @@ fn begun(k: u32, a: Place, b: Place, n: usize, tape: &[u64], t: usize, cells: &m
 }
 
 // G = G XOR T; T = P SHL k, both for one share and then for another: share i's helpers are the cells from q on. The last share goes first, because the
-// AND before leaves P's last share in a register, and share 0 is not to be loaded over it (tests/leakage).
+// AND before may leave P's last share in a register, and share 0 is not to be loaded over it. tests/leakage has no call with an ADD.
 fn merged(k: u32, n: usize, cells: &mut [u64])
     requires { ⌜ (k < 64) × (n ≤ 8) × (length (now cells) ≡ 512) ⌝ }
     ensures { λ _. ⌜ Still (blocks scratch n (Xor rG rG rT ∷ Shl rT rP k ∷ [])) (now (cells .entry)) (now (cells .exit)) ⌝ }

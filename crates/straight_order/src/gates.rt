@@ -1,5 +1,5 @@
 // Written by tools/compile_plan.py: change the plan or the compiler, not this file.
-// The words between runs, AND or ADD. Here and not below, so that ADD, which more than one plan calls, stays a function of its own and AND need not save
+// The words between runs, AND or ADD. Here and not below, so that ADD stays a function of its own, where more than one plan has it, and AND need not save
 // registers for it.
 ghost use mathlib.Core.Path.{_≡_};
 ghost use Prim.Native.Nat.{_≤_};

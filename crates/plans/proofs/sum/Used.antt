@@ -1,5 +1,5 @@
 -- The sum's plan, the test whether the smaller operand counts: eight bits v that are all ones where d < 64 and no exponent is 0, brought to one bit by three ANDs,
--- which ride beside the shift by 2. What they leave of v, and that the shift is as it were alone. Rests on Run, Fields, Exact and Tests.
+-- the first beside the shift by 2, the others beside the bits lost. What they leave of v, and that the shift is as it were alone. Rests on Run, Fields, Exact and Tests.
 use mathlib.Core.Path.{_≡_, refl, sym, ap, ap₂, _∙_}
 use Prim.Native.Nat.{ℕ, _+_, _-_, _*_, _/_, _%_, _^_, _<_}
 use native.Mathlib.Nat.{add-zero, mul-comm, mul-assoc}
