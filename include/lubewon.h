@@ -84,7 +84,8 @@ enum {
 /* The cell of share i of register r. */
 #define LUBEWON_CELL(i, r) (32 * (i) + (r))
 
-/* The words of the built-in plans, and the tape words that an operation takes on n shares. */
+/* The words of the built-in plans, and the tape words that an operation takes on n shares. Later versions may change these figures; product, sum and floor
+   stay within 1,000, 600 and 400 times n(n - 1). */
 #define LUBEWON_PRODUCT_PLAN 948
 #define LUBEWON_SUM_PLAN 738
 #define LUBEWON_FLOOR_PLAN 297

@@ -69,6 +69,9 @@ xor-cancel-r a b = xor-assoc a b b ∙ ap (xorW a) (xor-self b) ∙ xor-zero a
 pub xor-swap : (a b c : ℕ) → xorW a (xorW b c) ≡ xorW b (xorW a c)
 xor-swap a b c = sym (xor-assoc a b c) ∙ ap (λ (x : ℕ). xorW x c) (xor-comm a b) ∙ xor-assoc b a c
 
+pub xor-swap-r : (a b c : ℕ) → xorW (xorW a b) c ≡ xorW (xorW a c) b
+xor-swap-r a b c = xor-assoc a b c ∙ ap (xorW a) (xor-comm b c) ∙ sym (xor-assoc a c b)
+
 -- regrouping: `simp xor·ring` brings both sides of an equation of XORs to one form
 pub ruleset xor·ring = (xor-assoc, xor-comm, xor-swap, xor-self, xor-cancel, xor-zero, xor-zero-l)
 

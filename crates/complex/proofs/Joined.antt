@@ -6,7 +6,7 @@ use Prim.Native.Nat.{ℕ, zero, suc, _-_, _^_, _≤_}
 use native.Mathlib.Omega.{arith}
 use lib.ListN.{length, drop, replicate, length-drop}
 use Rattle.bits.specs.Ops.{xorW}
-use Rattle.bits.proofs.Xor.{xor-zero, xor·ring}
+use Rattle.bits.proofs.Xor.{xor-zero, xor-swap-r}
 use Rattle.masking.specs.Machine.{Words}
 use Rattle.masking.proofs.joined.Cells.{drop-words}
 use Rattle.splitting.specs.SplitJoin.{xorAll}
@@ -24,12 +24,9 @@ zeros-join (suc m) = ap (xorW 0) (zeros-join m) ∙ xor-zero 0
 plain-join : (n w : ℕ) → xorAll (plainShares n w) ≡ w
 plain-join n w = ap (xorW w) (zeros-join (n - 1)) ∙ xor-zero w
 
-regroup : (x b z : ℕ) → xorW (xorW x b) z ≡ xorW (xorW x z) b
-regroup x b z = simp xor·ring
-
 flip-join : (n : ℕ) → 2 ≤ n → (x : List ℕ) → length x ≡ n → xorAll (flippedFirst x) ≡ flipped (xorAll x)
 flip-join n l [] e = absurd (omega arith)
-flip-join n l (w ∷ x) e = regroup w (2 ^ 63) (xorAll x)
+flip-join n l (w ∷ x) e = xor-swap-r w (2 ^ 63) (xorAll x)
 
 -- ---- slots joined
 abbrev pub slots : (ℕ → ℕ) → (ℕ → ℕ) → Slots ℕ

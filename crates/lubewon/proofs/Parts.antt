@@ -148,12 +148,25 @@ figures h = record { words-are = h .words-are; ands-are = h .ands-are; adds-are 
 built-in : {o : Operation} → BuiltIn o → BuiltIn o
 built-in h = record { computes = h .computes; inputs = h .inputs; figures = h .figures }
 
-takes : {o : Operation} {times ceiling : ℕ} → Takes o times ceiling → Takes o times ceiling
+takes : {o : Operation} {ands ceiling : ℕ} → Takes o ands ceiling → Takes o ands ceiling
 takes h = record { counted = h .counted; foretold = h .foretold; reported = h .reported; below = h .below; shares = h .shares; enough = h .enough }
 
 random-words : RandomWords → RandomWords
 random-words h =
-    record { by-words = h .by-words; product = h .product; sum = h .sum; floor = h .floor; truncate = h .truncate; nearest = h .nearest; complex = h .complex; layer = h .layer }
+    record {
+      by-words = h .by-words;
+      product = h .product;
+      sum = h .sum;
+      floor = h .floor;
+      truncate = h .truncate;
+      nearest = h .nearest;
+      complex = h .complex;
+      complex-shares = h .complex-shares;
+      complex-enough = h .complex-enough;
+      layer = h .layer;
+      layer-shares = h .layer-shares;
+      layer-enough = h .layer-enough;
+    }
 
 by-rows : ByRows → ByRows
 by-rows h = record { parts = h .parts; rows = h .rows; words = h .words; tables = h .tables; fewer = h .fewer }

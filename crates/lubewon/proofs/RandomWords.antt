@@ -8,7 +8,7 @@ use native.Mathlib.Nat.{le-trans, le-of-eq, mul-le-mul-right}
 use native.Mathlib.Omega.{arith}
 use lib.Dec.{T, leb, leb→le, ltb, eqb}
 use lib.ListN.{length}
-use borrow.Author.Tests.{not-false}
+use borrow.Author.Tests.{not-false, le-leb, le-ltb, eq-eqb}
 use Rattle.word.specs.Layout.{isShareCount}
 use Rattle.word.proofs.Small.{share-range}
 use Rattle.checks.specs.declared.answer.Answer.{Answer}
@@ -16,6 +16,7 @@ use Rattle.checks.specs.Answers.{done, refused, given}
 use Rattle.checks.proofs.Passed.{passed}
 use Rattle.masking.specs.Foretold.{foretoldTape}
 use Rattle.binary64.specs.Operations.{Operation, Product, Sum, Floor, Truncate, Nearest}
+use Rattle.plans.specs.Cost.{maskedAnds}
 use Rattle.plans.specs.BuiltIns.{described, planOf}
 use Rattle.plans.proofs.BuiltIns.{built-ins}
 use Rattle.plans.proofs.Cost.{by-words}
@@ -24,7 +25,7 @@ use Rattle.complex.specs.Calls.{complexTape, complexAnswer, layerTape, layerAns
 use Rattle.complex.specs.Layer.{isLayer, blockCount}
 use Rattle.complex.proofs.Called.{answer-done}
 use Rattle.complex.proofs.Tape.{complex-units, layer-units}
-use Rattle.lubewon.specs.RandomWords.{timesOf, Takes, RandomWords}
+use Rattle.lubewon.specs.RandomWords.{Takes, RandomWords}
 
 -- ---- an answer that is done is what stands after the turn-downs
 next-is : (b : Bool) (k : ℕ) (next : Answer) → (k ≡ 0 → ⊥) → given b (refused k) next .number ≡ 0 → given b (refused k) next ≡ next
@@ -76,22 +77,56 @@ layer-done n N h numbers factors work tape z =
     let p₁ = passed b₁ (refused 1) rest (λ e. omega arith) z in
     (next-is b₁ 1 rest (λ e. omega arith) z ∙ after-three b₇ b₄ b₆ 7 4 6 (layerTape n N) (λ e. omega arith) (λ e. omega arith) (λ e. omega arith) (p₁ .1), s .0, s .1)
 
+-- ---- an answer that is not done reports 0
+after-two : (b₂ b₃ : Bool) (k₂ k₃ needed most : ℕ) → needed ≤ most → given b₂ (refused k₂) (given b₃ (refused k₃) (done 0 needed)) .tape ≤ most
+after-two true b₃ k₂ k₃ needed most h = omega arith
+after-two false true k₂ k₃ needed most h = omega arith
+after-two false false k₂ k₃ needed most h = h
+
+below-most : (needed most n other result work tape : ℕ) → (2 ≤ n → n ≤ 8 → needed ≤ most) → answerFor needed n other result work tape .tape ≤ most
+unfolding answerFor
+below-most needed most n other result work tape h = go (isShareCount n) refl
+  where
+    b₄ : Bool
+    b₄ = not (eqb other n && (eqb result n && eqb work 512))
+
+    go : (b : Bool) → isShareCount n ≡ b → given (not b) (refused 1) (given b₄ (refused 4) (given (ltb tape needed) (refused 6) (done 0 needed))) .tape ≤ most
+    go true e = let r = share-range n e in after-two b₄ (ltb tape needed) 4 6 needed most (h (r .0) (r .1))
+    go false e = omega arith
+
+-- ---- an answer whose tests all pass
+complex-passes : (n x y result work tape : ℕ) → 2 ≤ n → n ≤ 8 → x ≡ 2 * n → y ≡ 2 * n → result ≡ 2 * n → work ≡ 512 → complexTape n ≤ tape
+    → complexAnswer n x y result work tape ≡ done 0 (complexTape n)
+unfolding complexAnswer
+complex-passes n x y result work tape least most ex ey er ew enough =
+    rw
+    (le-leb 2 n least, le-leb n 8 most, eq-eqb x (2 * n) ex, eq-eqb y (2 * n) ey, eq-eqb result (2 * n) er, eq-eqb work 512 ew, le-ltb tape (complexTape n) enough)
+
+layer-passes : (n N h numbers factors work tape : ℕ) → 2 ≤ n → n ≤ 8 → isLayer N h ≡ true → numbers ≡ 2 * N * n → factors ≡ 2 * blockCount N h → work ≡ 512 → layerTape n N ≤ tape
+    → layerAnswer n N h numbers factors work tape ≡ done 0 (layerTape n N)
+unfolding layerAnswer
+layer-passes n N h numbers factors work tape least most s en ef ew enough =
+    rw
+    (le-leb 2 n least, le-leb n 8 most, s, eq-eqb numbers (2 * N * n) en, eq-eqb factors (2 * blockCount N h) ef, eq-eqb work 512 ew, le-ltb tape (layerTape n N) enough)
+
 -- ---- an operation by its figures
-takes : (o : Operation) (times ceiling : ℕ) → timesOf (planOf o) ≡ times → T (leb times ceiling) → described o .ands + 12 * described o .adds ≡ times → Takes o times ceiling
-takes o times ceiling c l e =
+takes : (o : Operation) (ands ceiling : ℕ) → maskedAnds (planOf o) ≡ ands → T (leb ands ceiling) → described o .ands + 12 * described o .adds ≡ ands → Takes o ands ceiling
+takes o ands ceiling c l e =
     record {
       counted = c;
       foretold = foretold;
       reported = reported;
-      below = λ x y result work tape z. le-trans (le-of-eq (reported x y result work tape z)) (mul-le-mul-right (length x * (length x - 1)) (leb→le times ceiling l));
+      below =
+          λ x y result work tape. below-most (foretoldTape (length x) (planOf o)) (ceiling * (length x * (length x - 1))) (length x) (length y) (length result) (length work) (length tape)
+          (λ least most. le-trans (le-of-eq (foretold (length x) least most)) (mul-le-mul-right (length x * (length x - 1)) (leb→le ands ceiling l)));
       shares = λ x y result work tape z. let d = is-done x y result work tape z in (d .1, d .2);
       enough =
           λ x y result work tape least most hy hr hw fits. let f = foretold (length x) least most in
           ap (λ (k : ℕ). answerFor k (length x) (length y) (length result) (length work) (length tape)) f
-          ∙ answer-done (times * (length x * (length x - 1))) (length x) (length y) (length result) (length work) (length tape) least most hy hr hw fits;
+          ∙ answer-done (ands * (length x * (length x - 1))) (length x) (length y) (length result) (length work) (length tape) least most hy hr hw fits;
     }
   where
-    foretold : (n : ℕ) → 2 ≤ n → n ≤ 8 → foretoldTape n (planOf o) ≡ times * (n * (n - 1))
+    foretold : (n : ℕ) → 2 ≤ n → n ≤ 8 → foretoldTape n (planOf o) ≡ ands * (n * (n - 1))
     foretold n a b = built-ins o .figures .tape-is n a b ∙ ap (λ (k : ℕ). k * (n * (n - 1))) e
 
     is-done : (x y result work tape : List ℕ) → callAnswer (planOf o) x y result work tape .number ≡ 0
@@ -99,12 +134,12 @@ takes o times ceiling c l e =
     is-done x y result work tape z = operation-done (foretoldTape (length x) (planOf o)) (length x) (length y) (length result) (length work) (length tape) z
 
     reported : (x y result work tape : List ℕ) → callAnswer (planOf o) x y result work tape .number ≡ 0
-        → callAnswer (planOf o) x y result work tape .tape ≡ times * (length x * (length x - 1))
+        → callAnswer (planOf o) x y result work tape .tape ≡ ands * (length x * (length x - 1))
     reported x y result work tape z =
         let d = is-done x y result work tape z in ap (λ (a : Answer). a .tape) (d .0) ∙ foretold (length x) (d .1) (d .2)
 
 -- counted in the plan's own words
-counted : (o : Operation) → timesOf (planOf o) ≡ described o .ands + 12 * described o .adds
+counted : (o : Operation) → maskedAnds (planOf o) ≡ described o .ands + 12 * described o .adds
 counted o = ap₂ (λ (i j : ℕ). i + 12 * j) (built-ins o .figures .ands-are) (built-ins o .figures .adds-are)
 
 pub random-words : RandomWords
@@ -119,7 +154,15 @@ random-words =
       complex =
           λ n x y result work tape z. let d = complex-done n (length x) (length y) (length result) (length work) (length tape) z in
           ap (λ (a : Answer). a .tape) (d .0) ∙ complex-units n (d .1) (d .2);
+      complex-shares = λ n x y result work tape z. let d = complex-done n (length x) (length y) (length result) (length work) (length tape) z in (d .1, d .2);
+      complex-enough =
+          λ n x y result work tape least most ex ey er ew fits. let u = complex-units n least most in
+          complex-passes n (length x) (length y) (length result) (length work) (length tape) least most ex ey er ew (le-trans (le-of-eq u) fits) ∙ ap (done 0) u;
       layer =
           λ n N h numbers factors work tape z. let d = layer-done n N h (length numbers) (length factors) (length work) (length tape) z in
           ap (λ (a : Answer). a .tape) (d .0) ∙ layer-units n (d .1) (d .2) N;
+      layer-shares = λ n N h numbers factors work tape z. let d = layer-done n N h (length numbers) (length factors) (length work) (length tape) z in (d .1, d .2);
+      layer-enough =
+          λ n N h numbers factors work tape least most s en ef ew fits. let u = layer-units n least most N in
+          layer-passes n N h (length numbers) (length factors) (length work) (length tape) least most s en ef ew (le-trans (le-of-eq u) fits) ∙ ap (done 0) u;
     }

@@ -234,7 +234,7 @@ module _ (C : Claims) where
   product-tables : tableWords + 256 ≤ length productPlan
   product-tables = C .product-by-rows .fewer
 
-  -- the tape words of any plan from its own words, those that done calls report, and the request's ceilings
+  -- the tape words of any plan from its own words, those that done calls report, and the request's ceilings of every call
   plan-tape : (n : ℕ) (plan : List ℕ) → 2 ≤ n → n ≤ 8 → foretoldTape n plan ≡ (ofKind 3 plan + 12 * ofKind 8 plan) * (n * (n - 1))
   plan-tape = C .random-words .by-words
 
@@ -242,24 +242,21 @@ module _ (C : Claims) where
       → callAnswer productPlan x y result work tape .tape ≡ 76 * (length x * (length x - 1))
   product-tape = C .random-words .product .reported
 
-  product-ceiling : (x y result work tape : List ℕ) → callAnswer productPlan x y result work tape .number ≡ 0
-      → callAnswer productPlan x y result work tape .tape ≤ 1000 * (length x * (length x - 1))
+  product-ceiling : (x y result work tape : List ℕ) → callAnswer productPlan x y result work tape .tape ≤ 1000 * (length x * (length x - 1))
   product-ceiling = C .random-words .product .below
 
   sum-tape : (x y result work tape : List ℕ) → callAnswer sumPlan x y result work tape .number ≡ 0
       → callAnswer sumPlan x y result work tape .tape ≡ 53 * (length x * (length x - 1))
   sum-tape = C .random-words .sum .reported
 
-  sum-ceiling : (x y result work tape : List ℕ) → callAnswer sumPlan x y result work tape .number ≡ 0
-      → callAnswer sumPlan x y result work tape .tape ≤ 600 * (length x * (length x - 1))
+  sum-ceiling : (x y result work tape : List ℕ) → callAnswer sumPlan x y result work tape .tape ≤ 600 * (length x * (length x - 1))
   sum-ceiling = C .random-words .sum .below
 
   floor-tape : (x result work tape : List ℕ) → callAnswer floorPlan x (zerosFor x) result work tape .number ≡ 0
       → callAnswer floorPlan x (zerosFor x) result work tape .tape ≡ 12 * (length x * (length x - 1))
   floor-tape x result work tape = C .random-words .floor .reported x (zerosFor x) result work tape
 
-  floor-ceiling : (x result work tape : List ℕ) → callAnswer floorPlan x (zerosFor x) result work tape .number ≡ 0
-      → callAnswer floorPlan x (zerosFor x) result work tape .tape ≤ 400 * (length x * (length x - 1))
+  floor-ceiling : (x result work tape : List ℕ) → callAnswer floorPlan x (zerosFor x) result work tape .tape ≤ 400 * (length x * (length x - 1))
   floor-ceiling x result work tape = C .random-words .floor .below x (zerosFor x) result work tape
 
   truncate-tape : (n : ℕ) → 2 ≤ n → n ≤ 8 → foretoldTape n truncatePlan ≡ 5 * (n * (n - 1))

@@ -1,50 +1,58 @@
--- How many random words the calls on shares take: document 02, No. 6, "For every n from 2 to 8, product uses at most 1,000·n(n−1) tape words, sum at most 600·n(n−1),
--- floor at most 400·n(n−1). .. Prove it from the plans' own words and the foretold count." The figures of the operations, of the complex product and of a layer stand together here. What a call reports is what the share run that defines
--- its result draws: `masked`, its `run` (execution/specs/WholeRun).
+-- How many random words the calls on shares take: document 02, No. 6, "For every n from 2 to 8, product uses at most 1,000·n(n−1) tape words, sum at most
+-- 600·n(n−1), floor at most 400·n(n−1). .. Prove it from the plans' own words and the foretold count." All figures stand together here. What an operation's
+-- call reports is what the share run that defines its result draws: `masked`, its `run` (execution/specs/WholeRun). What the complex product and a layer
+-- report is what their calls take one after another: `transforms`, its `tape` and `acts-are-calls` (complex/specs/Holds). Split's n − 1 words are apart.
 use mathlib.Core.Path.{_≡_}
+use mathlib.Core.Bool.{true}
 use mathlib.Core.List.{List}
-use Prim.Native.Nat.{ℕ, _+_, _-_, _*_, _/_, _≤_}
+use Prim.Native.Nat.{ℕ, _-_, _*_, _/_, _≤_}
 use lib.ListN.{length}
 use Rattle.checks.specs.Answers.{done}
 use Rattle.masking.specs.Foretold.{foretoldTape}
 use Rattle.binary64.specs.Operations.{Operation, Product, Sum, Floor, Truncate, Nearest}
 use Rattle.plans.specs.BuiltIns.{planOf}
-use Rattle.plans.specs.Cost.{ofKind}
+use Rattle.plans.specs.Cost.{maskedAnds}
 use Rattle.execution.specs.Shares.{callAnswer}
+use Rattle.complex.specs.Layer.{isLayer, blockCount}
 use Rattle.complex.specs.Calls.{complexCallAnswer, layerCallAnswer}
 
--- "the plans' own words": n(n−1) tape words for each AND among them, twelve times that for each ADD
-abbrev pub timesOf : List ℕ → ℕ
-timesOf plan = ofKind 3 plan + 12 * ofKind 8 plan
-
--- An operation whose calls take `times` n(n−1) tape words, with `ceiling` n(n−1) allowed. A call with one operand is the case of zeros for the second, a call in
+-- An operation whose plan has `ands` masked ANDs, each n(n−1) tape words, where `ceiling` times n(n−1) are allowed. A call with one operand is the case of zeros for the second, a call in
 -- place that of the first operand for the result (execution/specs/Shares).
-pub record Takes (o : Operation) (times ceiling : ℕ) : Type 0 where
-  pub counted : timesOf (planOf o) ≡ times
+pub record Takes (o : Operation) (ands ceiling : ℕ) : Type 0 where
+  -- "the plans' own words"
+  pub counted : maskedAnds (planOf o) ≡ ands
   -- "the foretold count"
-  pub foretold : (n : ℕ) → 2 ≤ n → n ≤ 8 → foretoldTape n (planOf o) ≡ times * (n * (n - 1))
-  -- "For every n from 2 to 8, .. uses at most": what a call that is done reports
+  pub foretold : (n : ℕ) → 2 ≤ n → n ≤ 8 → foretoldTape n (planOf o) ≡ ands * (n * (n - 1))
+  -- what a call that is done reports
   pub reported : (x y result work tape : List ℕ) → callAnswer (planOf o) x y result work tape .number ≡ 0
-      → callAnswer (planOf o) x y result work tape .tape ≡ times * (length x * (length x - 1))
-  pub below : (x y result work tape : List ℕ) → callAnswer (planOf o) x y result work tape .number ≡ 0
-      → callAnswer (planOf o) x y result work tape .tape ≤ ceiling * (length x * (length x - 1))
-  -- and it is of 2 to 8 shares
+      → callAnswer (planOf o) x y result work tape .tape ≡ ands * (length x * (length x - 1))
+  -- "uses at most": so of every call, since one that is turned down reports 0
+  pub below : (x y result work tape : List ℕ) → callAnswer (planOf o) x y result work tape .tape ≤ ceiling * (length x * (length x - 1))
+  -- a call that is done has 2 to 8 shares
   pub shares : (x y result work tape : List ℕ) → callAnswer (planOf o) x y result work tape .number ≡ 0 → (2 ≤ length x) × (length x ≤ 8)
   -- so many are enough: over slices of the right lengths a call is done
   pub enough : (x y result work tape : List ℕ) → 2 ≤ length x → length x ≤ 8 → length y ≡ length x → length result ≡ length x → length work ≡ 512
-      → times * (length x * (length x - 1)) ≤ length tape → callAnswer (planOf o) x y result work tape ≡ done 0 (times * (length x * (length x - 1)))
+      → ands * (length x * (length x - 1)) ≤ length tape → callAnswer (planOf o) x y result work tape ≡ done 0 (ands * (length x * (length x - 1)))
 
 pub record RandomWords : Type 0 where
   -- "from the plans' own words": so for every plan
-  pub by-words : (n : ℕ) (plan : List ℕ) → 2 ≤ n → n ≤ 8 → foretoldTape n plan ≡ timesOf plan * (n * (n - 1))
+  pub by-words : (n : ℕ) (plan : List ℕ) → 2 ≤ n → n ≤ 8 → foretoldTape n plan ≡ maskedAnds plan * (n * (n - 1))
   pub product : Takes Product 76 1000
   pub sum : Takes Sum 53 600
   pub floor : Takes Floor 12 400
   -- the request names no ceiling for these two; floor's holds for them
   pub truncate : Takes Truncate 5 400
   pub nearest : Takes Nearest 14 400
-  -- what is built from them: four products and two sums, and four products and six sums for each of a layer's N/2 pairs, at any distance h
+  -- what is built from them. The complex product: four products and two sums, 410 = 4·76 + 2·53
   pub complex : (n : ℕ) (x y result work tape : List ℕ) → complexCallAnswer n x y result work tape .number ≡ 0
-      → complexCallAnswer n x y result work tape .tape ≡ (4 * 76 + 2 * 53) * (n * (n - 1))
+      → complexCallAnswer n x y result work tape .tape ≡ 410 * (n * (n - 1))
+  pub complex-shares : (n : ℕ) (x y result work tape : List ℕ) → complexCallAnswer n x y result work tape .number ≡ 0 → (2 ≤ n) × (n ≤ 8)
+  pub complex-enough : (n : ℕ) (x y result work tape : List ℕ) → 2 ≤ n → n ≤ 8 → length x ≡ 2 * n → length y ≡ 2 * n → length result ≡ 2 * n → length work ≡ 512
+      → 410 * (n * (n - 1)) ≤ length tape → complexCallAnswer n x y result work tape ≡ done 0 (410 * (n * (n - 1)))
+  -- a layer, at any distance h: four products and six sums for each of its N/2 pairs, 622 = 4·76 + 6·53
   pub layer : (n N h : ℕ) (numbers factors work tape : List ℕ) → layerCallAnswer n N h numbers factors work tape .number ≡ 0
-      → layerCallAnswer n N h numbers factors work tape .tape ≡ N / 2 * ((4 * 76 + 6 * 53) * (n * (n - 1)))
+      → layerCallAnswer n N h numbers factors work tape .tape ≡ N / 2 * (622 * (n * (n - 1)))
+  pub layer-shares : (n N h : ℕ) (numbers factors work tape : List ℕ) → layerCallAnswer n N h numbers factors work tape .number ≡ 0 → (2 ≤ n) × (n ≤ 8)
+  pub layer-enough : (n N h : ℕ) (numbers factors work tape : List ℕ) → 2 ≤ n → n ≤ 8 → isLayer N h ≡ true → length numbers ≡ 2 * N * n
+      → length factors ≡ 2 * blockCount N h → length work ≡ 512 → N / 2 * (622 * (n * (n - 1))) ≤ length tape
+      → layerCallAnswer n N h numbers factors work tape ≡ done 0 (N / 2 * (622 * (n * (n - 1))))

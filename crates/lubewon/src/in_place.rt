@@ -1,4 +1,4 @@
-// The operations on shares for C that replace their first operand. What holds of them is `Masked`.
+// The operations on shares for C that replace their first operand. What holds of them is `Masked`; how many tape words they report, `RandomWords`.
 ghost use mathlib.Core.Path.{_≡_};
 ghost use Rattle.plans.specs.ProductPlan.{productPlan};
 ghost use Rattle.plans.specs.SumPlan.{sumPlan};

@@ -8,7 +8,7 @@ use native.Mathlib.Omega.{arith}
 use lib.Bits.{differ}
 use Rattle.bits.specs.Ops.{xorW, andW, notW, shlW}
 use Rattle.bits.proofs.Digits.{or-digit, bit}
-use Rattle.bits.proofs.Xor.{xor-assoc, xor-zero, xor-comm, and-zero, and-xor, and-xor-l, and-assoc, and-comm, not-xor}
+use Rattle.bits.proofs.Xor.{xor-assoc, xor-swap-r, xor-zero, xor-comm, and-zero, and-xor, and-xor-l, and-assoc, and-comm, not-xor}
 use Rattle.bits.proofs.Shift.{shl-xor, shl-and, shl-shl}
 use Rattle.bits.proofs.Bound.{xor-lt, and-lt, not-lt, shl-lt}
 use Rattle.bits.proofs.Choice.{and-ones}
@@ -40,11 +40,8 @@ not-step k N h =
     let s : ℕ = shlW N k in
     let hp : p < 2 ^ 64 = not-lt N in
     not-xor (xorW N (andW p s)) (xor-lt 64 N (andW p s) h (and-lt 64 p s hp))
-    ∙ regroup N (andW p s) (2 ^ 64 - 1) ∙ ap (λ (x : ℕ). xorW x (andW p s)) (sym (not-xor N h))
+    ∙ xor-swap-r N (andW p s) (2 ^ 64 - 1) ∙ ap (λ (x : ℕ). xorW x (andW p s)) (sym (not-xor N h))
     ∙ xor-comm p (andW p s) ∙ ap (xorW (andW p s)) (sym (and-ones p hp)) ∙ sym (and-xor p s (2 ^ 64 - 1)) ∙ ap (andW p) (sym (not-xor s (shl-lt N k)))
-  where
-    regroup : (a b c : ℕ) → xorW (xorW a b) c ≡ xorW (xorW a c) b
-    regroup a b c = xor-assoc a b c ∙ ap (xorW a) (xor-comm b c) ∙ sym (xor-assoc a c b)
 
 -- a place of N shifted is seen only through a word that is shifted as far
 not-shifted : (k N Y : ℕ) → N < 2 ^ 64 → Y < 2 ^ 64 → andW (notW (shlW N k)) (shlW Y k) ≡ shlW (andW (notW N) Y) k

@@ -15,7 +15,7 @@ use Rattle.masking.specs.Foretold.{foretoldTape}
 use Rattle.masking.specs.Reads.{readsOnly}
 use Rattle.plans.proofs.Tests.{every, each}
 use Rattle.binary64.specs.Operations.{Product, Sum, Floor, Truncate, Nearest}
-use Rattle.plans.specs.Cost.{Figures, ofKind}
+use Rattle.plans.specs.Cost.{Figures, ofKind, maskedAnds}
 use Rattle.plans.specs.BuiltIns.{Described, described}
 use Rattle.plans.specs.ProductPlan.{productHead, carryRow, productRow, productRows, lastRows, productEnd, productTail, productSteps, productPlan}
 use Rattle.plans.specs.SumPlan.{sumPlan}
@@ -56,7 +56,7 @@ kind-units k = go (eqb k 3) refl
     go true e = subst (λ (j : ℕ). unitsOf j ≡ cond (eqb j 3) 1 0 + 12 * cond (eqb j 8) 1 0) (sym (eqb-true k 3 e)) refl
     go false e = rw e (other (eqb k 8))
 
-plan-kinds : (plan : List ℕ) → units plan ≡ ofKind 3 plan + 12 * ofKind 8 plan
+plan-kinds : (plan : List ℕ) → units plan ≡ maskedAnds plan
 plan-kinds [] = refl
 plan-kinds (w ∷ ws) =
     ap₂ _+_ (kind-units (kindOf w)) (plan-kinds ws) ∙ regroup (cond (eqb (kindOf w) 3) 1 0) (cond (eqb (kindOf w) 8) 1 0) (ofKind 3 ws) (ofKind 8 ws)
@@ -72,7 +72,7 @@ pairs-twice : T (every 9 pairsTwice)
 pairs-twice = tt
 
 -- the foretold tape words of any plan
-pub by-words : (n : ℕ) (plan : List ℕ) → 2 ≤ n → n ≤ 8 → foretoldTape n plan ≡ (ofKind 3 plan + 12 * ofKind 8 plan) * (n * (n - 1))
+pub by-words : (n : ℕ) (plan : List ℕ) → 2 ≤ n → n ≤ 8 → foretoldTape n plan ≡ maskedAnds plan * (n * (n - 1))
 by-words n plan least most = plan-units n plan ∙ ap₂ _*_ (plan-kinds plan) (eqb→eq _ _ (each 9 pairsTwice pairs-twice n (omega arith)))
 
 -- what is said of a plan's words, each computed from them

@@ -7,9 +7,9 @@ use Rattle.bits.specs.Ops.{xorW, andW, shlW, shrW}
 use Rattle.bits.proofs.Digits.{digit}
 use Rattle.bits.proofs.Xor.{xor-comm}
 use Rattle.bits.proofs.Sum.{xor-packed}
-use Rattle.bits.proofs.Places.{shr-is, shl-exact, and-block}
+use Rattle.bits.proofs.Places.{shl-exact, and-block}
 use Rattle.plans.proofs.Fields.{pack}
-use Rattle.plans.proofs.Shifts.{shl-keeps}
+use Rattle.plans.proofs.Shifts.{moved}
 
 -- ---- bits
 bit-and-mul : (a b : ℕ) → a < 2 → b < 2 → andW a b ≡ a * b
@@ -33,7 +33,7 @@ bit-only a b ha hb =
 
 -- the lowest bit at place 1, by two shifts
 pub doubled : (a : ℕ) → shrW (shlW a 63) 62 ≡ a % 2 * 2
-doubled a = ap (λ (z : ℕ). shrW z 62) (shl-keeps 1 63 a refl) ∙ shr-is (a % 2 * 2 ^ 63) 62 ∙ omega arith
+doubled a = moved 1 1 62 a refl
 
 -- a bit moved up k places
 pub bit-up : (k w a : ℕ) → k < 64 → a < 2 → w ≡ a → shlW w k ≡ a * 2 ^ k

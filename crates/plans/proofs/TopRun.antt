@@ -8,7 +8,7 @@ use native.Mathlib.Omega.{arith}
 use lib.Pow as Pow
 use Rattle.bits.specs.Ops.{xorW, andW, notW, shlW, shrW, addW}
 use Rattle.bits.proofs.Digits.{bit}
-use Rattle.bits.proofs.Xor.{xor-self, xor-zero-l, xor-cancel, and-zero-l, and-comm, xor-cancel-r, xor·ring}
+use Rattle.bits.proofs.Xor.{xor-self, xor-zero-l, xor-cancel, and-zero-l, and-comm, xor-cancel-r, xor-swap-r}
 use Rattle.bits.proofs.Bound.{xor-lt, shl-lt}
 use Rattle.bits.proofs.Sum.{xor-packed}
 use Rattle.bits.proofs.Adder.{CarriesOut}
@@ -234,12 +234,9 @@ module _ (u v : ℕ) (hu : u < 2 ^ 16) (hv : v < 2 ^ 16) where
           let X : ℕ = xorW u v * 2 ^ 48 in
           let Y : ℕ = shlW (w .G) 1 in
           let e : xorW (xorW X Y) (2 ^ 48 - 1) ≡ xorW ((u + v) % 2 ^ 16 * 2 ^ 48) (2 ^ 48 - 1) =
-          regroup X Y (2 ^ 48 - 1) ∙ ap (λ (x : ℕ). xorW x Y) (xor-packed (xorW u v) 48 (2 ^ 48 - 1) (omega arith) ∙ sym (H-low u v hu hv)) ∙ ran .sum ∙ sum-is u v hu hv
+          xor-swap-r X Y (2 ^ 48 - 1) ∙ ap (λ (x : ℕ). xorW x Y) (xor-packed (xorW u v) 48 (2 ^ 48 - 1) (omega arith) ∙ sym (H-low u v hu hv)) ∙ ran .sum ∙ sum-is u v hu hv
           ∙ sym (xor-packed ((u + v) % 2 ^ 16) 48 (2 ^ 48 - 1) (omega arith)) in
           ap (λ (x : ℕ). xorW x Y) plain-xor ∙ sym (xor-cancel-r (xorW X Y) (2 ^ 48 - 1)) ∙ ap (λ (x : ℕ). xorW x (2 ^ 48 - 1)) e ∙ xor-cancel-r ((u + v) % 2 ^ 16 * 2 ^ 48) (2 ^ 48 - 1)
-        where
-          regroup : (x y c : ℕ) → xorW (xorW x y) c ≡ xorW (xorW x c) y
-          regroup x y c = simp xor·ring
 
       raised : xorW ((u + v) % 2 ^ 16) ((2 ^ 16 - 1) - w .N / 2 ^ 48 * 2 % 2 ^ 16) ≡ (u + v + 1) % 2 ^ 16
       raised =

@@ -1,5 +1,6 @@
--- The sum of two words by its carries, with the run of ones of the sum beside them, for 12 ANDs: as many as ADD, which gives the sum alone.
--- Registers: G the carries out of each place, N a run: a place is 0 where the exclusive-or of the two words is 1 there and in all places below.
+-- The carries of a sum of two words a and b, with its run of ones beside them, for 12 ANDs: as many as ADD, which gives the sum alone.
+-- Registers: H = a XOR b, G the carries out of each place, so that a + b is H XOR (G SHL 1), N a run: a place is 0 where H is 1 there and in all places below, so that
+-- N is the complement of a prefix adder's propagate bits, and H XOR (G SHL 1) XOR NOT (N SHL 1) is a + b + 1.
 -- Nothing here has to be believed: what the plans compute is proved.
 use mathlib.Core.List.{List, [], _∷_, _++_}
 use Prim.Native.Nat.{ℕ, _-_}

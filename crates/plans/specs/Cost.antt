@@ -13,6 +13,10 @@ abbrev pub ofKind : ℕ → List ℕ → ℕ
 ofKind k [] = 0
 ofKind k (w ∷ ws) = cond (eqb (kindOf w) k) 1 0 + ofKind k ws
 
+-- the masked ANDs of a plan: one for each AND among its words, twelve for each ADD
+abbrev pub maskedAnds : List ℕ → ℕ
+maskedAnds plan = ofKind 3 plan + 12 * ofKind 8 plan
+
 -- a plan's figures, and the tape words that follow from them
 pub record Figures (plan : List ℕ) (words ands adds : ℕ) : Type 0 where
   pub words-are : length plan ≡ words

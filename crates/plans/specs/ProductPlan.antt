@@ -1,10 +1,14 @@
 -- The product's plan: document 01, "Each built-in plan is .. at most 2,048 words, .., with operands in registers 0 and 1 and the result in 2. Its words are the
 -- team's choice". What is to be believed of it is only what is proved: it computes `product`. It is no constant table, by document 02, No. 3: a head, a row for each bit of F_y, made from the
 -- number of that bit (ProductRows has the words so), and a tail.
--- p = m_x · m_y, q = p - 1: head, rows and the tail's two additions sum up 2q + 1, so that none has to add a 1 alone. b is 1 where p has its top bit at 105, else 0; l1 and l0 are bits 52 and 51 of q, h is bit 53;
+-- p = m_x · m_y, q = p - 1. At place i row i adds n_x = 2^53 - 1 - m_x, or 2^53 + m_x, which is 2 m_x + 1 more, where bit i of y is set. With n_x and n_y in
+-- the head, and m_x at place 52 and m_x + 2^52 at place 53 in the tail, all sum up to 2p - 1 + 2^106 = 2q + 1 + 2^106, so that none has to add a 1 alone; the
+-- 2^106 is the 1 in U. b is 1 where p has its top bit at 105, else 0; l1 and l0 are bits 52 and 51 of q, h is bit 53;
 -- A is 1 where the bits below l0 are all ones, so that p has zeros there. U is E_x + E_y + 1 + b, where U - 1024 is the exponent before rounding.
+-- Where one AND does two things in different places of a word, the one is said to ride beside the other.
 -- Registers: 0 x, 1 y, 2 the result, 3 m_x, 4 its complement n_x, 5 and 6 a sum S + C in carry-save form, 7 the low bits `low`, 10 an addend,
--- 11 the number 1; then 12 the high half R with the exponents, 13 its carries G, 14 its run N, 8 the tests Z; 16 and 18 hold bits, 8, 9, 15 and 17 intermediate words, and so do 3 to 6 and 10 once S + C is summed. A significand m is 2^52 + F, for E = 0 too.
+-- 11 the number 1; then 12 the high half R with the exponents, 13 its carries G, 14 its run N, 8 the tests Z; 16 and 18 hold bits, 8, 9, 15 and 17 intermediate
+-- words, and so do 3 to 6 and 10 once S + C is summed. A significand m is 2^52 + F, for E = 0 too.
 use mathlib.Core.List.{List, [], _∷_, _++_, map}
 use Prim.Native.Nat.{ℕ, zero, suc}
 use Rattle.word.specs.declared.step.Step.{Step}
@@ -53,21 +57,21 @@ unfolding addWithRun
 highHalf = addWithRun 5 6 12 13 14 15 17 8 9 ++ (Shl 17 13 1 ∷ Xor 12 12 17 ∷ [])
 
 -- register 16: l1, h and bit 11 of U; 18: l0, b and bit 10 of U; bit 0 of register 10: 1 - b
-unfoldable pub pairs : List Step
-pairs =
+unfoldable pub bitFactors : List Step
+bitFactors =
     Shr 16 7 63 ∷ Shl 17 12 63 ∷ Shr 17 17 62 ∷ Xor 16 16 17 ∷ Shr 17 12 63 ∷ Shl 17 17 2 ∷ Xor 16 16 17
     ∷ Shl 18 7 1 ∷ Shr 18 18 63 ∷ Xor 10 0 1 ∷ Xor 10 10 12 ∷ Shr 10 10 52 ∷ Not 17 10 ∷ Shl 17 17 63 ∷ Shr 17 17 62 ∷ Xor 18 18 17
     ∷ Shl 17 12 1 ∷ Shr 17 17 63 ∷ Shl 17 17 2 ∷ Xor 18 18 17 ∷ []
 
--- the bits of q below l0, with ones below them, brought from 64 places to 32 by AND; beside it, from place 32 on, registers 16 AND 18, which go to register 3: l1 l0, h b and U's two
+-- the bits of q below l0, with ones below them, brought from 64 places to 32 by AND; beside it, from place 32 on, registers 16 AND 18, which go to register 3: l1 l0, h b and bits 10 and 11 of U
 unfoldable pub fold32 : List Step
 fold32 =
     Shr 8 7 11 ∷ Not 8 8 ∷ Shl 8 8 13 ∷ Not 8 8 ∷ Shr 9 8 32 ∷ Shl 8 8 32 ∷ Shr 8 8 32 ∷ Shl 17 16 32 ∷ Xor 8 8 17 ∷ Shl 17 18 32 ∷ Xor 9 9 17
     ∷ And 8 8 9 ∷ Shr 3 8 32 ∷ []
 
 -- registers 5: l0 (1 - l1) and l1 (1 - l0), 15: h b and b; register 4: l1 l0; register 6: l1 (1 - l0)
-unfoldable pub pairsAgain : List Step
-pairsAgain =
+unfoldable pub bitFactorsAgain : List Step
+bitFactorsAgain =
     Shl 4 3 63 ∷ Shr 4 4 63 ∷ Shl 5 18 63 ∷ Shr 5 5 63 ∷ Xor 5 5 4 ∷ Shl 6 16 63 ∷ Shr 6 6 63 ∷ Xor 6 6 4 ∷ Shl 15 6 1 ∷ Xor 5 5 15
     ∷ Shl 15 3 62 ∷ Shr 15 15 63 ∷ Shl 9 18 62 ∷ Shr 9 9 63 ∷ Shl 9 9 1 ∷ Xor 15 15 9 ∷ []
 
@@ -84,8 +88,8 @@ tests =
     ∷ Shr 17 12 52 ∷ Const 9 1024 ∷ Xor 17 17 9 ∷ Shr 9 17 1 ∷ Xor 17 17 9 ∷ Shl 17 17 53 ∷ Xor 8 8 17 ∷ zeroTests 8 17
 
 -- register 9: A W, A l1 (1 - l0), [E_x ≠ 0 and E_y ≠ 0], [U = 3071], where W = b l0 (1 - l1) h + (1 - b) l1 (1 - l0); register 4: V = l1 l0 + b l1 (1 - l0)
-unfoldable pub products : List Step
-products =
+unfoldable pub bitProducts : List Step
+bitProducts =
     Shl 9 8 63 ∷ Shr 9 9 63 ∷ Shl 17 9 1 ∷ Xor 9 9 17 ∷ Not 15 8 ∷ Shl 17 15 47 ∷ Shr 17 17 63 ∷ Shl 17 17 2 ∷ Xor 9 9 17
     ∷ Shl 17 8 15 ∷ Shr 17 17 63 ∷ Shl 17 17 3 ∷ Xor 9 9 17 ∷ Shl 18 15 31 ∷ Shr 18 18 63 ∷ Shl 18 18 2 ∷ Shr 15 5 1 ∷ Xor 4 4 15
     ∷ Xor 15 15 6 ∷ Shl 17 5 63 ∷ Shr 17 17 63 ∷ Xor 15 15 17 ∷ Shl 17 6 1 ∷ Xor 15 15 17 ∷ Xor 15 15 18 ∷ Shr 17 12 63 ∷ Shl 17 17 3 ∷ Xor 15 15 17
@@ -118,8 +122,8 @@ choose =
 
 -- from the high half to the result
 unfoldable pub productEnd : List Step
-unfolding highHalf pairs fold32 pairsAgain fold16 tests products roundSteps ranges normalise choose
-productEnd = highHalf ++ (pairs ++ (fold32 ++ (pairsAgain ++ (fold16 ++ (tests ++ (products ++ (roundSteps ++ (ranges ++ (normalise ++ choose)))))))))
+unfolding highHalf bitFactors fold32 bitFactorsAgain fold16 tests bitProducts roundSteps ranges normalise choose
+productEnd = highHalf ++ (bitFactors ++ (fold32 ++ (bitFactorsAgain ++ (fold16 ++ (tests ++ (bitProducts ++ (roundSteps ++ (ranges ++ (normalise ++ choose)))))))))
 
 unfoldable pub productTail : List Step
 productTail = lastRows ++ productEnd

@@ -1,4 +1,4 @@
--- Runs of steps that the built-in plans share, or that say one thing, over the registers that they use.
+-- Short runs of steps with a name, of which the built-in plans are made: a mask from a bit, a shift by choice, tests in lanes, a word folded.
 -- Nothing here has to be believed: the words of the built-in plans are the team's choice (document 01), and what they compute is proved.
 use mathlib.Core.List.{List, [], _∷_}
 use Prim.Native.Nat.{ℕ}

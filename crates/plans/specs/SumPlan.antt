@@ -1,13 +1,13 @@
 -- The sum's plan: document 01, "Each built-in plan is a constant table of at most 2,048 words, .., with operands in registers 0 and 1 and the result in 2. Its words are the
 -- team's choice". What is to be believed of it is only what is proved: it computes `sum`.
 -- a is the operand with the larger exponent, x where the exponents are equal, and b the other; d = E_a - E_b. A significand m is 2^52 + F, for E = 0 too. The sticky bit st,
--- whether b's significand loses a bit when it is shifted right by d mod 64, stays out of the addition until its last step. Where d ≥ 64 or b is a zero, b is left out, and st may
+-- whether w = m_b · 2^9 loses a bit when it is shifted right by d mod 64, stays out of the addition until its last step. Where d ≥ 64 or b is a zero, b is left out, and st may
 -- be either: A + 1 and A - 1 are rounded to A.
 -- Registers: 0 x, 1 y, 2 the result, 3 x XOR y, 4 the difference d, 5 a mask, 6 and 7 the operands a and b, 8 a's significand A, 9 b's significand w, 10 and 11 carries and run of
 -- the exponents' comparison, then 10 the bits w has lost, 14 tests and then st, 15 st where the signs differ, 16 the aligned operand B; then 9, 10 and 11 the exclusive-or H, the
--- carries G and the run N of A and B, 17 z = |A ± (B + st)|, 23 its sign, 18 its leading zeros th as ones, 19 their count less 1, 20 and 22 the folded th, 24 E_a, then whether E
+-- carries G and the run N of A and B, and once more of NOT E_a and the count, 17 z = |A ± (B + st)|, 23 its sign, 18 its leading zeros as ones (th, a thermometer code), 19 their count less 1, 20 and 22 the folded th, 24 E_a, then whether E
 -- ≤ 0, 25 tests that ride beside carries, 26 whether the sign is dropped; at the end 9 the packed result, 17 its run, 18 what decides on rounding, 21, which first is the number
--- 1, the first bit dropped. 12 and 13 hold intermediate words, and so do others where they hold nothing of these.
+-- 1, the first bit dropped. Where one AND does two things in different places of a word, the one is said to ride beside the other. 12 and 13 hold intermediate words, and so do others where they hold nothing of these.
 use mathlib.Core.List.{List, [], _∷_, _++_, map}
 use Prim.Native.Nat.{ℕ, _-_, _/_, _^_}
 use Rattle.word.specs.declared.step.Step.{Step}
@@ -18,18 +18,18 @@ use Rattle.plans.specs.CarryRun.{pairedStep}
 use Rattle.plans.specs.RunOfOnes.{runStage}
 
 -- carries and run in the 16 top places, registers 10 and 11, over twice k places, with one AND; beside it, in the places 16 to 47, register 25 AND itself shifted right by 8 / k
-unfoldable pub ridingStep : ℕ → List Step
-ridingStep k =
+unfoldable pub carryWithLanes : ℕ → List Step
+carryWithLanes k =
     Not 12 11 ∷ Shr 12 12 48 ∷ Shl 5 12 48 ∷ Xor 12 12 5 ∷ Shl 13 10 k ∷ Shl 5 11 k ∷ Shr 5 5 48 ∷ Xor 13 13 5
     ∷ Shl 5 25 16 ∷ Xor 12 12 5 ∷ Shr 5 25 (8 / k) ∷ Shl 5 5 16 ∷ Xor 13 13 5 ∷ And 12 12 13
     ∷ Shr 13 12 48 ∷ Shl 13 13 48 ∷ Xor 10 10 13 ∷ Shl 13 12 48 ∷ Xor 11 11 13 ∷ Shl 25 12 16 ∷ Shr 25 25 32 ∷ []
 
 -- E_y + NOT E_x in the 16 top places: register 4 their exclusive-or, 10 the carries, 11 the run; beside them two tests. Bits of register 25: 0 [E_x = 0], 16 [E_y = 0]
 unfoldable pub compareSteps : List Step
-unfolding ridingStep
+unfolding carryWithLanes
 compareSteps =
     Shl 12 1 1 ∷ Shr 12 12 53 ∷ Shl 13 0 1 ∷ Shr 13 13 53 ∷ Shl 25 12 16 ∷ Xor 25 25 13 ∷ Not 25 25 ∷ Shl 25 25 32 ∷ Shr 25 25 32 ∷ Shl 12 12 48 ∷ Not 13 13 ∷ Shl 13 13 48
-    ∷ Xor 4 12 13 ∷ And 10 12 13 ∷ Not 11 4 ∷ Shr 11 11 48 ∷ Shl 11 11 48 ∷ (ridingStep 1 ++ (ridingStep 2 ++ (ridingStep 4 ++ ridingStep 8)))
+    ∷ Xor 4 12 13 ∷ And 10 12 13 ∷ Not 11 4 ∷ Shr 11 11 48 ∷ Shl 11 11 48 ∷ (carryWithLanes 1 ++ (carryWithLanes 2 ++ (carryWithLanes 4 ++ carryWithLanes 8)))
 
 -- register 5: all ones where E_x ≥ E_y; register 4: |E_x - E_y|, or one less where y's is the larger; a and b
 unfoldable pub orderSteps : List Step
@@ -89,18 +89,18 @@ unfoldable pub alignSteps : List Step
 alignSteps = Shr 12 10 32 ∷ Spread 12 12 ∷ Shl 16 9 1 ∷ And 16 16 12 ∷ Shl 14 10 48 ∷ Shr 14 14 48 ∷ []
 
 -- carries and run over twice k places; beside the carries' AND, in the places 0 to 9 that A leaves free, registers r and s, whose AND goes to o
-unfoldable pub riddenStep : ℕ → ℕ → ℕ → ℕ → List Step
-riddenStep k r s o =
+unfoldable pub carryWithBits : ℕ → ℕ → ℕ → ℕ → List Step
+carryWithBits k r s o =
     Not 4 11 ∷ Shl 12 10 k ∷ Shr 13 4 10 ∷ Shl 13 13 10 ∷ Xor 13 13 r ∷ Xor 12 12 s ∷ And 12 12 13 ∷ Shl o 12 54 ∷ Shr o o 54 ∷ Xor 12 12 o ∷ Xor 10 10 12
     ∷ Shl 17 11 k ∷ And 17 4 17 ∷ Xor 11 11 17 ∷ []
 
 -- A + B, or A + NOT B where the signs differ: carries and run; beside them register 14: the sticky bit, 15: that where the signs differ
 unfoldable pub addSteps : List Step
-unfolding riddenStep pairedStep
+unfolding carryWithBits pairedStep
 addSteps =
     Shr 15 3 63 ∷ Spread 13 15 ∷ Xor 16 16 13 ∷ Xor 9 8 16 ∷ And 10 8 16 ∷ Not 11 9
-    ∷ Shr 5 14 8 ∷ Shl 14 14 56 ∷ Shr 14 14 56 ∷ (riddenStep 1 14 5 14 ++ (Shr 5 14 4 ∷ (riddenStep 2 14 5 14 ++ (Shr 5 14 2 ∷ (riddenStep 4 14 5 14 ++ (Shr 5 14 1 ∷ (riddenStep 8 14 5 14
-    ++ (Const 5 1 ∷ Xor 14 14 5 ∷ (riddenStep 16 14 15 15 ++ pairedStep 32 32 10 11 12 13 5)))))))))
+    ∷ Shr 5 14 8 ∷ Shl 14 14 56 ∷ Shr 14 14 56 ∷ (carryWithBits 1 14 5 14 ++ (Shr 5 14 4 ∷ (carryWithBits 2 14 5 14 ++ (Shr 5 14 2 ∷ (carryWithBits 4 14 5 14 ++ (Shr 5 14 1 ∷ (carryWithBits 8 14 5 14
+    ++ (Const 5 1 ∷ Xor 14 14 5 ∷ (carryWithBits 16 14 15 15 ++ pairedStep 32 32 10 11 12 13 5)))))))))
 
 -- z = A + B + st, or |A - B - st|, st the sticky bit: the carry out c of A + NOT B tells whether A > B, and is added by the run, unless st is set; where A ≤ B the sum is the complement of B - A.
 -- Register 23: z's sign
@@ -148,9 +148,9 @@ resultLanes =
 
 -- E = E_a + 1 - the count: register 9 it and the bits of z after the top bit, packed; bit 0 of register 24: whether E ≤ 0. Bits of register 25: 0 [E ≥ 2047], 16 [E_a = 0 and the signs differ]
 unfoldable pub exponentSteps : List Step
-unfolding exponentStart resultLanes ridingStep
+unfolding exponentStart resultLanes carryWithLanes
 exponentSteps =
-    exponentStart ++ (resultLanes ++ (ridingStep 1 ++ (ridingStep 2 ++ (ridingStep 4 ++ (ridingStep 8
+    exponentStart ++ (resultLanes ++ (carryWithLanes 1 ++ (carryWithLanes 2 ++ (carryWithLanes 4 ++ (carryWithLanes 8
     ++ (Shl 12 10 1 ∷ Xor 9 9 12 ∷ Shl 12 11 1 ∷ Xor 12 12 9 ∷ Shr 24 12 63 ∷ Not 9 9 ∷ Shr 9 9 48 ∷ Shl 9 9 52
     ∷ Shl 12 17 1 ∷ Shr 12 12 12 ∷ Xor 9 9 12 ∷ Shl 9 9 1 ∷ Shr 9 9 1 ∷ []))))))
 

@@ -12,7 +12,7 @@ use Rattle.plans.specs.Computes.{Computes}
 use Rattle.plans.specs.Segments.{zeroTests}
 use Rattle.plans.specs.CarryRun.{addWithRun, carryStep, pairedStep}
 use Rattle.plans.specs.ProductPlan.{productHead, carryRow, productRow, productRows, withExponents, lastRows, productEnd, productTail, productSteps, productPlan}
-use Rattle.plans.specs.ProductPlan.{highHalf, pairs, fold32, pairsAgain, fold16, tests, products, roundSteps, ranges, normalise, choose}
+use Rattle.plans.specs.ProductPlan.{highHalf, bitFactors, fold32, bitFactorsAgain, fold16, tests, bitProducts, roundSteps, ranges, normalise, choose}
 use Rattle.plans.proofs.Registers.{runSteps, run-append}
 use Rattle.plans.proofs.Modelled.{wellFormed, steps-compute}
 use Rattle.plans.proofs.product.High.{High, high-half}
@@ -21,8 +21,8 @@ use Rattle.plans.proofs.product.Tail.{end-is}
 use Rattle.plans.proofs.product.Last.{lessOne, topBit, top-bit, sum-high, ended-product}
 
 product-well-formed : T (wellFormed productSteps)
-unfolding productHead carryRow productRow productRows withExponents lastRows productEnd productTail productSteps highHalf addWithRun carryStep pairedStep pairs fold32 pairsAgain fold16 tests zeroTests
-    products roundSteps ranges normalise choose
+unfolding productHead carryRow productRow productRows withExponents lastRows productEnd productTail productSteps highHalf addWithRun carryStep pairedStep bitFactors fold32 bitFactorsAgain fold16 tests zeroTests
+    bitProducts roundSteps ranges normalise choose
 product-well-formed = tt
 
 product-run : (cells : List ℕ) → length cells ≡ 32 → ((r : ℕ) → getD cells r 0 < 2 ^ 64)

@@ -1,5 +1,5 @@
 -- The product's last segments as named functions of words, and that the run of the segments gives just these, by computation.
--- Rests on Registers and AddWithRun.
+-- Rests on Registers, Shifts and AddWithRun.
 use mathlib.Core.Path.{_≡_, refl, sym, ap, _∙_}
 use mathlib.Core.List.{List}
 use Prim.Native.Nat.{ℕ}
@@ -8,16 +8,14 @@ use Rattle.bits.specs.Ops.{xorW, andW, notW, shlW, shrW, spreadW}
 use Rattle.plain.specs.Machine.{stepped}
 use Rattle.plans.specs.Segments.{zeroTests}
 use Rattle.plans.specs.CarryRun.{addWithRun, carryStep, pairedStep}
-use Rattle.plans.specs.ProductPlan.{productEnd, highHalf, pairs, fold32, pairsAgain, fold16, tests, products, roundSteps, ranges, normalise, choose}
+use Rattle.plans.specs.ProductPlan.{productEnd, highHalf, bitFactors, fold32, bitFactorsAgain, fold16, tests, bitProducts, roundSteps, ranges, normalise, choose}
 use Rattle.plans.proofs.Registers.{runSteps, tab, tabbed}
+use Rattle.plans.proofs.Shifts.{lowest, exponentW}
 use Rattle.plans.proofs.Lanes.{zeros16}
 use Rattle.plans.proofs.CarryRun.{carryG, carryN}
 use Rattle.plans.proofs.AddWithRun.{pairAnd, pairG, pairN, Words, wholeRun}
 
--- the lowest bit, the 32 low bits, the 52 low bits; a rider from place k on
-abbrev pub lowest : ℕ → ℕ
-lowest a = shrW (shlW a 63) 63
-
+-- the 32 low bits, the 52 low bits; a rider from place k on
 abbrev pub low32 : ℕ → ℕ
 low32 a = shrW (shlW a 32) 32
 
@@ -27,7 +25,7 @@ low52 a = shrW (shlW a 12) 12
 abbrev pub ridden : ℕ → ℕ → ℕ → ℕ
 ridden k a r = xorW a (shlW r k)
 
--- registers 10, 16 and 18 after `pairs`
+-- registers 10, 16 and 18 after `bitFactors`
 unfoldable pub parityW : ℕ → ℕ → ℕ → ℕ
 parityW x y R = shrW (xorW (xorW x y) R) 52
 
@@ -61,16 +59,13 @@ unfoldable pub topBothW : ℕ → ℕ → ℕ
 topBothW q r = xorW (shrW (shlW r 62) 63) (shlW (shrW (shlW q 62) 63) 1)
 
 -- the tests' lanes
-abbrev pub exponentW : ℕ → ℕ
-exponentW a = shrW (shlW a 1) 53
-
 unfoldable pub edgeW : ℕ → ℕ
 edgeW X = xorW X (shrW X 1)
 
 unfoldable pub lanesW : ℕ → ℕ → ℕ → ℕ → ℕ
 lanesW K x y R = xorW (xorW (xorW K (shlW (exponentW x) 16)) (shlW (exponentW y) 32)) (shlW (edgeW (xorW (shrW R 52) 1024)) 53)
 
--- the two factors of `products`, from the tests Z, from what came of the second riders t, and from Y
+-- the two factors of `bitProducts`, from the tests Z, from what came of the second riders t, and from Y
 unfoldable pub testsW : ℕ → ℕ
 testsW Z = xorW (xorW (xorW (lowest Z) (shlW (lowest Z) 1)) (shlW (shrW (shlW (notW Z) 47) 63) 2)) (shlW (shrW (shlW Z 15) 63) 3)
 
@@ -132,7 +127,7 @@ abbrev pub endW : ℕ → ℕ → ℕ → ℕ → ℕ → ℕ → ℕ
 endW x y S C low one = let h : Words = wholeRun S C in afterW x y low one (xorW (xorW S C) (shlW (h .G) 1)) (h .G) (h .N)
 
 end-tab : (f : ℕ → ℕ) → getD (runSteps productEnd (tab f 0 32)) 2 0 ≡ endW (f 0) (f 1) (f 5) (f 6) (f 7) (f 11)
-unfolding productEnd highHalf addWithRun carryStep pairedStep pairs fold32 pairsAgain fold16 tests zeroTests products roundSteps ranges normalise choose stepped
+unfolding productEnd highHalf addWithRun carryStep pairedStep bitFactors fold32 bitFactorsAgain fold16 tests zeroTests bitProducts roundSteps ranges normalise choose stepped
     wholeRun pairG pairN pairAnd carryG carryN zeros16 parityW firstW secondW invertedW fold32W fold16W foldedW onlyW onlyBothW topBothW edgeW lanesW testsW termsW
     carryW lastW roundedW rangeW nonzeroW changeW chosenW signedW finishedW closingW testedW pairedW afterW
 end-tab f = refl

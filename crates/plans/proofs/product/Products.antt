@@ -7,14 +7,14 @@ use Rattle.bits.specs.Ops.{xorW, andW, notW, shlW, shrW}
 use Rattle.bits.proofs.Places.{shr-is, bit-not}
 use Rattle.binary64.specs.Number.{expo}
 use Rattle.plans.proofs.Fields.{field}
-use Rattle.plans.proofs.Shifts.{xor-parity}
+use Rattle.plans.proofs.Shifts.{lowest, lowest-is, xor-parity}
 use Rattle.plans.proofs.Lanes.{isZero}
 use Rattle.plans.proofs.SmallBits.{mul-bit, bit-up, bits4, four-bits, place0, place1, last2, bits4-lt, and-bits}
 use Rattle.plans.proofs.BitCases.{by-bits, bits-lt}
 use Rattle.plans.proofs.product.Ended.{carryIn, lastBit}
-use Rattle.plans.proofs.product.End.{lowest, testsW, termsW, carryW, lastW}
+use Rattle.plans.proofs.product.End.{testsW, termsW, carryW, lastW}
 use Rattle.plans.proofs.product.Pairs.{lowOf, highOf, top-bit}
-use Rattle.plans.proofs.product.Terms.{lowest-is, Four, hb-lt, first-only, second-only}
+use Rattle.plans.proofs.product.Terms.{Four, hb-lt, first-only, second-only}
 use Rattle.plans.proofs.product.Tested.{Tested, edgeOf, edge-bit}
 
 -- ---- from the tests

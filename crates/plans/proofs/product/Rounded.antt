@@ -14,11 +14,10 @@ use Rattle.bits.proofs.Sum.{xor-packed}
 use Rattle.bits.proofs.Choice.{and-spread}
 use Rattle.bits.proofs.Places.{shr-is, and-low, xor-block}
 use Rattle.plans.proofs.Fields.{field, low-bits, spread-run}
-use Rattle.plans.proofs.Shifts.{shl-keeps, xor-parity}
+use Rattle.plans.proofs.Shifts.{shl-keeps, lowest-is, xor-parity}
 use Rattle.plans.proofs.SmallBits.{bit-xor-sum, mul-bit, bit-up, bits4, two-bits, place2, place3, last3, ride}
 use Rattle.plans.proofs.product.End.{roundedW, rangeW, nonzeroW, changeW}
 use Rattle.plans.proofs.product.Pairs.{highOf, top-bit, next-bit}
-use Rattle.plans.proofs.product.Terms.{lowest-is}
 use Rattle.plans.proofs.product.Tested.{Tested, edgeOf, edge-bit, inOf, in-bit, overOf, over-bit}
 
 -- ---- the carry added

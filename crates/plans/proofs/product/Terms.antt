@@ -1,16 +1,14 @@
 -- What the product's foldings leave of their riders, in numbers: from the bits b, l1, l0 and h, and from the two top bits of U.
 -- Rests on End and SmallBits.
 use mathlib.Core.Path.{_≡_, refl, ap₂, _∙_}
-use Prim.Native.Nat.{ℕ, _-_, _*_, _%_, _<_}
+use Prim.Native.Nat.{ℕ, _-_, _*_, _<_}
 use native.Mathlib.Nat.{mul-comm}
 use native.Mathlib.Omega.{arith}
 use Rattle.bits.specs.Ops.{xorW, andW, shlW, shrW}
-use Rattle.plans.proofs.Fields.{field, low-bits}
+use Rattle.plans.proofs.Fields.{field}
+use Rattle.plans.proofs.Shifts.{lowest, lowest-is}
 use Rattle.plans.proofs.SmallBits.{mul-bit, bit-only, bit-up, bits4, two-bits, place0, place1, and-bits}
-use Rattle.plans.proofs.product.End.{lowest, onlyW, onlyBothW, topBothW}
-
-pub lowest-is : (a : ℕ) → lowest a ≡ a % 2
-lowest-is a = low-bits a 63 1 refl
+use Rattle.plans.proofs.product.End.{onlyW, onlyBothW, topBothW}
 
 pub record Four (b l1 l0 h : ℕ) : Type 0 where
   pub b-lt : b < 2

@@ -15,11 +15,11 @@ use Rattle.bits.proofs.Places.{shr-is}
 use Rattle.word.proofs.Ranges.{both}
 use Rattle.binary64.specs.Number.{expo}
 use Rattle.plans.proofs.Fields.{pack}
-use Rattle.plans.proofs.Shifts.{shl-keeps, exponent}
+use Rattle.plans.proofs.Shifts.{shl-keeps, exponentW, exponent}
 use Rattle.plans.proofs.Lanes.{isZero, zeros16, zeros16-lt, lane0, lane1, lane2, lane3}
 use Rattle.plans.proofs.Tests.{every, each}
 use Rattle.plans.proofs.product.Operands.{expo-lt}
-use Rattle.plans.proofs.product.End.{exponentW, edgeW, lanesW}
+use Rattle.plans.proofs.product.End.{edgeW, lanesW}
 use Rattle.plans.proofs.product.Pairs.{highOf}
 
 -- the bits of U ^ 1024 but the lowest, each with the one below it; whether they are all the same

@@ -18,7 +18,7 @@ use Rattle.binary64.proofs.Encode.{to-top}
 use Rattle.binary64.proofs.Round.{round-top}
 use Rattle.plans.proofs.Shifts.{exponent, xor-parity}
 use Rattle.plans.proofs.Lanes.{isZero, not-zero}
-use Rattle.plans.proofs.sum.Run.{exponentW, leadingW, normalW, Riding, exponentRun, lessW, underW, packedW, roundedW, chosenW, finishW}
+use Rattle.plans.proofs.sum.Run.{leadingW, normalW, Riding, exponentRun, lessW, underW, packedW, roundedW, chosenW, finishW}
 use Rattle.plans.proofs.sum.Leading.{leading-lt}
 use Rattle.plans.proofs.sum.Normal.{leading-some, leading-odd, leading-first, leading-second, normal-none, normal-places, normal-value, normal-zero}
 use Rattle.plans.proofs.sum.Exponent.{less-is, under-is, exponent-at, under-none, under-some, packed-is}
@@ -174,7 +174,7 @@ module _ (a xy sg z : ℕ) (hx : xy < 2 ^ 64) (p : 0 < z) (h : z < 2 ^ 64) where
 
 pub closing-some : (a xy sg z : ℕ) → a < 2 ^ 64 → xy < 2 ^ 64 → sg < 2 ^ 64 → 0 < z → z < 2 ^ 64
     → finishW a xy sg z ≡ signed (sg % 2 * (1 - isZero (expo a) * (xy / 2 ^ 63))) (encoded z (expo a))
-unfolding finishW exponentW
+unfolding finishW
 closing-some a xy sg z ha hx hs p h =
     ap (λ (x : ℕ). ending x (normalW z .count) (normalW z .value) (leadingW z) xy sg) (exponent a)
     ∙ ap (λ (x : ℕ). ending (expo a) (normalW z .count) x (leadingW z) xy sg) (normal-value z h p)
@@ -182,7 +182,7 @@ closing-some a xy sg z ha hx hs p h =
 
 -- ---- z is 0
 pub closing-none : (a xy sg : ℕ) → a < 2 ^ 64 → xy < 2 ^ 64 → sg < 2 ^ 64 → (expo a ≡ 0 → ⊥) → finishW a xy sg 0 ≡ 0
-unfolding finishW exponentW
+unfolding finishW
 closing-none a xy sg ha hx hs n =
     let h : 0 < 2 ^ 64 = pow-pos 64 in
     let e : ℕ = expo a in

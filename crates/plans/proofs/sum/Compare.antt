@@ -10,16 +10,12 @@ use Rattle.bits.proofs.Sum.{xor-packed}
 use Rattle.bits.proofs.Places.{shl-exact}
 use Rattle.binary64.specs.Number.{expo}
 use Rattle.plans.proofs.Fields.{low-bits}
-use Rattle.plans.proofs.Shifts.{not-is, shl-keeps, exponent}
+use Rattle.plans.proofs.Shifts.{not-is, exponentW, exponent, not-top}
 use Rattle.plans.proofs.Lanes.{isZero, andDown, zeros16, lane0, lane1}
 use Rattle.plans.proofs.AddWithRun.{Words}
 use Rattle.plans.proofs.TopRun.{Top, top-and, topStart, topRun, TopRuns, top-runs}
-use Rattle.plans.proofs.sum.Run.{exponentW, compareLanes, compareW, Riding, ride}
+use Rattle.plans.proofs.sum.Run.{compareLanes, compareW, Riding, ride}
 use Rattle.plans.proofs.sum.Ride.{rode}
-
-exponent-is : (a : ℕ) → exponentW a ≡ expo a
-unfolding exponentW
-exponent-is a = exponent a
 
 -- NOT E_x in 16 bits
 abbrev pub opposed : ℕ → ℕ
@@ -27,15 +23,11 @@ opposed x = (2 ^ 16 - 1) - expo x
 
 -- ---- the operands in the top places
 pub up-is : (y : ℕ) → shlW (exponentW y) 48 ≡ expo y * 2 ^ 48
-up-is y = ap (λ (e : ℕ). shlW e 48) (exponent-is y) ∙ shl-exact 11 48 (expo y) (omega arith) (omega arith)
+up-is y = ap (λ (e : ℕ). shlW e 48) (exponent y) ∙ shl-exact 11 48 (expo y) (omega arith) (omega arith)
 
 pub opposed-is : (x : ℕ) → shlW (notW (exponentW x)) 48 ≡ opposed x * 2 ^ 48
 opposed-is x =
-    ap (λ (e : ℕ). shlW e 48) (ap notW (exponent-is x) ∙ not-is (expo x)) ∙ shl-keeps 16 48 ((2 ^ 64 - 1) - expo x) refl
-    ∙ ap (λ (e : ℕ). e * 2 ^ 48) (low (expo x) (omega arith))
-  where
-    low : (e : ℕ) → e < 2048 → ((2 ^ 64 - 1) - e) % 2 ^ 16 ≡ (2 ^ 16 - 1) - e
-    low e h = omega arith
+    ap (λ (e : ℕ). shlW (notW e) 48) (exponent x) ∙ not-top (expo x) (omega arith)
 
 -- ---- the two exponents in lanes, inverted
 module _ (x y : ℕ) where
@@ -46,7 +38,7 @@ module _ (x y : ℕ) where
   unfolding compareLanes
   lanes-are =
       let e : xorW (shlW (exponentW y) 16) (exponentW x) ≡ both =
-      ap₂ (λ (p q : ℕ). xorW (shlW p 16) q) (exponent-is y) (exponent-is x) ∙ ap (λ (p : ℕ). xorW p (expo x)) (shl-exact 11 16 (expo y) (omega arith) (omega arith))
+      ap₂ (λ (p q : ℕ). xorW (shlW p 16) q) (exponent y) (exponent x) ∙ ap (λ (p : ℕ). xorW p (expo x)) (shl-exact 11 16 (expo y) (omega arith) (omega arith))
       ∙ xor-packed (expo y) 16 (expo x) (omega arith) in
       low-bits _ 32 32 refl ∙ ap (λ (p : ℕ). notW p % 2 ^ 32) e ∙ ap (λ (p : ℕ). p % 2 ^ 32) (not-is both) ∙ low both (omega arith)
     where

@@ -2,21 +2,21 @@
 -- What D and w are then, in numbers. Rests on Compare, Order and Fields.
 use mathlib.Core.Path.{_≡_, refl, sym, ap, ap₂, _∙_}
 use Prim.Native.Nat.{ℕ, _+_, _-_, _*_, _/_, _%_, _^_, _≤_, _<_}
-use native.Mathlib.Nat.{add-zero, add-mod, add-comm, zero-mul, one-mul, div-one, mod-eq-of-lt}
+use native.Mathlib.Nat.{add-mod, add-comm, zero-mul, one-mul, div-one, mod-eq-of-lt}
 use native.Mathlib.Omega.{arith}
 use lib.Bits as Bits
 use lib.Pow as Pow
 use lib.Pow.{ones-lt}
 use Rattle.bits.specs.Ops.{xorW, andW, notW, shlW, shrW, spreadW}
 use Rattle.bits.proofs.Digits.{digit, bit-lt}
-use Rattle.bits.proofs.Xor.{xor-comm, xor-zero, xor-self, xor-cancel, and-zero, xor·ring}
+use Rattle.bits.proofs.Xor.{xor-comm, xor-assoc, xor-zero, xor-cancel, and-zero, xor·ring}
 use Rattle.bits.proofs.Bound.{xor-lt}
 use Rattle.bits.proofs.Sum.{xor-packed}
 use Rattle.bits.proofs.Parity.{xor-shifted}
-use Rattle.bits.proofs.Places.{shr-is, shl-exact, and-low, and-block, xor-block}
+use Rattle.bits.proofs.Places.{shr-is, shl-exact, and-low}
 use Rattle.binary64.specs.Number.{expo}
 use Rattle.plans.proofs.Fields.{field, low-bits, spread-run, spread-run-at, bit-mul-lt, pack}
-use Rattle.plans.proofs.Shifts.{not-is, shl-keeps}
+use Rattle.plans.proofs.Shifts.{not-is, shl-keeps, changes, and-fields}
 use Rattle.plans.proofs.sum.Run.{compareW, firstW, nearW, exactAnd, exactD, exactW}
 use Rattle.plans.proofs.sum.Compare.{opposed, compared}
 use Rattle.plans.proofs.sum.Order.{first-yes, first-no, near-yes, near-no, sum-no}
@@ -37,10 +37,6 @@ packed : (h m l : ℕ) → m < 2 ^ 54 → l < 2 ^ 8 → xorW (h * 2 ^ 62) (xorW 
 packed h m l hm hl =
     ap (xorW (h * 2 ^ 62)) (xor-packed m 8 l hl) ∙ xor-packed h 62 (m * 2 ^ 8 + l) (omega arith) ∙ omega arith
 
-and-fields : (h m l i n k : ℕ) → m < 2 ^ 54 → l < 2 ^ 8 → n < 2 ^ 54 → k < 2 ^ 8 → andW (fields h m l) (fields i n k) ≡ fields (andW h i) (andW m n) (andW l k)
-and-fields h m l i n k hm hl hn hk =
-    and-block 8 (h * 2 ^ 54 + m) (i * 2 ^ 54 + n) l k hl hk ∙ ap (λ (u : ℕ). u * 2 ^ 8 + andW l k) (and-block 54 h i m n hm hn)
-
 -- ---- the AND, with N's run, the mask of y and w = q · 2^9
 abbrev raise : ℕ → ℕ
 raise N = notW (shrW N 48)
@@ -56,15 +52,7 @@ module _ (N y xy q : ℕ) (hq : q < 2 ^ 53) where
 
   M-is : xorW (shrW (q * 2 ^ 9) 1) (q * 2 ^ 9) ≡ M * 2 ^ 8
   unfolding M
-  M-is =
-      ap₂ xorW (shr-is (q * 2 ^ 9) 1 ∙ low) high ∙ xor-block 8 q (q * 2) 0 0 (omega arith) (omega arith)
-      ∙ ap (λ (u : ℕ). xorW q (q * 2) * 2 ^ 8 + u) (xor-self 0) ∙ add-zero (xorW q (q * 2) * 2 ^ 8)
-    where
-      low : q * 2 ^ 9 / 2 ^ 1 ≡ q * 2 ^ 8 + 0
-      low = omega arith
-
-      high : q * 2 ^ 9 ≡ q * 2 * 2 ^ 8 + 0
-      high = omega arith
+  M-is = changes 1 8 q
 
   low : ℕ
   low = raise N % 2 ^ 8
@@ -94,7 +82,7 @@ module _ (N y xy q : ℕ) (hq : q < 2 ^ 53) where
   unfolding exactAnd p low high
   and-is =
       ap₂ andW left right
-      ∙ and-fields high M low (y % 2 * (2 ^ 2 - 1)) (p % 2 * (2 ^ 54 - 1)) (y % 2 * (2 ^ 8 - 1)) M-lt (omega arith) (bit-mul-lt p (2 ^ 54 - 1) 54 (ones-lt 54)) (omega arith)
+      ∙ and-fields 54 8 high M low (y % 2 * (2 ^ 2 - 1)) (p % 2 * (2 ^ 54 - 1)) (y % 2 * (2 ^ 8 - 1)) M-lt (bit-mul-lt p (2 ^ 54 - 1) 54 (ones-lt 54)) (omega arith) (omega arith)
       ∙ ap₂ (λ (a b : ℕ). fields a b (andW low (y % 2 * (2 ^ 8 - 1)))) (and-run 2 high y (omega arith)) (and-run 54 M p M-lt)
       ∙ ap (λ (a : ℕ). fields (y % 2 * high) (p % 2 * M) a) (and-run 8 low y (omega arith))
 
@@ -150,11 +138,8 @@ module _ (N y xy q : ℕ) (hq : q < 2 ^ 53) where
       let hh : y % 2 * high < 2 ^ 2 = high-lt in
       let e : xorW (shrW (shlW t 56) 56) (shlW (shrW t 62) 8) ≡ X = ap₂ (λ (a b : ℕ). xorW a (shlW b 8)) t-low t-high ∙ pack 2 8 (y % 2 * low) (y % 2 * high) hl hh (omega arith) in
       ap₂ (λ (a b : ℕ). xorW (xorW D a) b) (ap (λ (a : ℕ). shlW a 1) e ∙ shl-exact 10 1 X (omega arith) (omega arith)) (spread-run y 63 1 refl)
-      ∙ regroup D (X * 2 ^ 1) (y % 2 * (2 ^ 1 - 1)) ∙ ap (xorW D) (xor-packed X 1 (y % 2 * (2 ^ 1 - 1)) (bit-mul-lt y 1 1 (omega arith)) ∙ gather)
+      ∙ xor-assoc D (X * 2 ^ 1) (y % 2 * (2 ^ 1 - 1)) ∙ ap (xorW D) (xor-packed X 1 (y % 2 * (2 ^ 1 - 1)) (bit-mul-lt y 1 1 (omega arith)) ∙ gather)
     where
-      regroup : (a b c : ℕ) → xorW (xorW a b) c ≡ xorW a (xorW b c)
-      regroup a b c = simp xor·ring
-
       gather : (y % 2 * high * 2 ^ 8 + y % 2 * low) * 2 ^ 1 + y % 2 * (2 ^ 1 - 1) ≡ y % 2 * (raise N % 2 ^ 10 * 2 + 1)
       gather = digit (λ b. (b * high * 2 ^ 8 + b * low) * 2 ^ 1 + b * (2 ^ 1 - 1) ≡ b * (raise N % 2 ^ 10 * 2 + 1)) (omega arith) (let e = ten-bits in omega arith) (y % 2) (bit-lt y)
 

@@ -15,16 +15,12 @@ use Rattle.bits.proofs.Parity.{xor-bit}
 use Rattle.bits.proofs.Places.{shr-is, shl-exact, and-block, bit-shl}
 use Rattle.binary64.proofs.Cases.{lt-or-ge}
 use Rattle.plans.proofs.Fields.{field, low-bits}
-use Rattle.plans.proofs.Shifts.{not-is, shl-keeps, xor-ones}
+use Rattle.plans.proofs.Shifts.{not-is, shl-keeps, lowest, lowest-is, not-top, xor-ones}
 use Rattle.plans.proofs.Lanes.{andDown}
 use Rattle.plans.proofs.AddWithRun.{Words}
 use Rattle.plans.proofs.TopRun.{Top, top-twice, topStart, topRun, TopRuns, plain-xor, top-runs}
-use Rattle.plans.proofs.sum.Run.{lowestW, firstAnd, resultLanes, fewW, rideStart, exponentRun, lessW, underW, packedW, Riding, ride}
+use Rattle.plans.proofs.sum.Run.{firstAnd, resultLanes, fewW, rideStart, exponentRun, lessW, underW, packedW, Riding, ride}
 use Rattle.plans.proofs.sum.Ride.{rode}
-
-lowest-is : (w : ℕ) → lowestW w ≡ w % 2
-unfolding lowestW
-lowest-is w = low-bits w 63 1 refl
 
 -- whether the two top bits differ
 unfoldable pub ends : ℕ → ℕ
@@ -51,10 +47,7 @@ module _ (e mu th xy : ℕ) (he : e < 2 ^ 11) (hm : mu < 2 ^ 16) (ht : th < 2 ^ 
   u-lt = omega arith
 
   top-e : shlW (notW e) 48 ≡ u * 2 ^ 48
-  top-e = shl-keeps 16 48 (notW e) refl ∙ ap (λ (x : ℕ). x % 2 ^ 16 * 2 ^ 48) (not-is e) ∙ ap (λ (x : ℕ). x * 2 ^ 48) (low e he)
-    where
-      low : (e : ℕ) → e < 2 ^ 11 → ((2 ^ 64 - 1) - e) % 2 ^ 16 ≡ (2 ^ 16 - 1) - e
-      low e h = omega arith
+  top-e = not-top e (omega arith)
 
   top-mu : shlW mu 48 ≡ mu * 2 ^ 48
   top-mu = shl-exact 16 48 mu hm (omega arith)
@@ -75,7 +68,7 @@ module _ (e mu th xy : ℕ) (he : e < 2 ^ 11) (hm : mu < 2 ^ 16) (ht : th < 2 ^ 
       ap₂ andW (ap₂ xorW top-e (ends-is th ht) ∙ xor-packed u 48 (ends th) h) (ap₂ xorW top-mu (lowest-is e) ∙ xor-packed mu 48 (e % 2) k)
       ∙ and-block 48 u mu (ends th) (e % 2) h k
 
-  pub first-low : lowestW (firstAnd e mu th) ≡ andW (ends th) (e % 2)
+  pub first-low : lowest (firstAnd e mu th) ≡ andW (ends th) (e % 2)
   unfolding rider
   first-low = lowest-is (firstAnd e mu th) ∙ ap (λ (x : ℕ). x % 2) first-is ∙ low (andW u mu) rider rider-lt
     where

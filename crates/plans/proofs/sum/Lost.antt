@@ -1,10 +1,10 @@
 -- The sum's plan, the bits that a shift of w by s places drops: what the shift changes in w is w ^ (w >> s) or nothing, and folded over s, 2s, .. it is w or nothing.
 -- Rests on Run, Fields and Shifts.
 use mathlib.Core.Path.{_≡_, refl, sym, ap, ap₂, _∙_}
-use Prim.Native.Nat.{ℕ, _+_, _*_, _/_, _%_, _^_, _<_}
-use native.Mathlib.Nat.{add-comm, zero-mul, one-mul, mul-zero, mul-one, mul-assoc, div-one, zero-div, zero-mod, mod-lt}
+use Prim.Native.Nat.{ℕ, _+_, _*_, _%_, _^_, _<_}
+use native.Mathlib.Nat.{zero-mul, one-mul, mul-zero, mul-one, div-one, zero-div, zero-mod, mod-lt}
 use native.Mathlib.Omega.{arith}
-use lib.Pow.{pow-pos, pow-add, shl-shr}
+use lib.Pow.{pow-pos}
 use Rattle.bits.specs.Ops.{xorW, shlW, shrW}
 use Rattle.bits.proofs.Digits.{digit, bit-lt}
 use Rattle.bits.proofs.Xor.{xor-comm, xor-zero, xor-zero-l, xor·ring}
@@ -14,15 +14,8 @@ use Rattle.bits.proofs.Choice.{and-spread}
 use Rattle.bits.proofs.Sum.{xor-packed}
 use Rattle.bits.proofs.Places.{shr-is}
 use Rattle.plans.proofs.Fields.{bit-mul-lt}
-use Rattle.plans.proofs.Shifts.{shl-keeps}
+use Rattle.plans.proofs.Shifts.{moved}
 use Rattle.plans.proofs.sum.Run.{changedW, refoldW, lostW, rightW}
-
--- SHL r + k, SHR r: the s low bits at the places from k on
-pub moved : (s k r v : ℕ) → s + (r + k) ≡ 64 → shrW (shlW v (r + k)) r ≡ v % 2 ^ s * 2 ^ k
-moved s k r v e =
-    shr-is (shlW v (r + k)) r ∙ ap (λ (u : ℕ). u / 2 ^ r) (shl-keeps s (r + k) v e)
-    ∙ ap (λ (u : ℕ). v % 2 ^ s * u / 2 ^ r) (ap (λ (u : ℕ). 2 ^ u) (add-comm r k) ∙ pow-add 2 k r)
-    ∙ ap (λ (u : ℕ). u / 2 ^ r) (sym (mul-assoc (v % 2 ^ s) (2 ^ k) (2 ^ r))) ∙ shl-shr (v % 2 ^ s * 2 ^ k) r
 
 -- ---- what changes: v ^ (v >> s), where v is w or nothing
 abbrev chosen : ℕ → ℕ → ℕ

@@ -3,11 +3,11 @@
 use mathlib.Core.Path.{_≡_, refl, sym, ap, ap₂, _∙_, subst}
 use mathlib.Core.Logic.{inl, inr}
 use Prim.Native.Nat.{ℕ, zero, suc, _+_, _-_, _*_, _/_, _%_, _^_, _≤_, _<_}
-use native.Mathlib.Nat.{mod-eq-of-lt, add-zero, zero-mul, mul-one, div-one, div-div-eq-div-mul, eq-zero-or-pos, pow-suc, mul-assoc, mul-le-mul-right}
+use native.Mathlib.Nat.{mod-eq-of-lt, add-zero, zero-mul, mul-one, div-one, div-div-eq-div-mul, eq-zero-or-pos, pow-suc, mul-le-mul-right}
 use native.Mathlib.Omega.{arith}
 use lib.Count.{leadingZeros, leading-le, leading-of-zero, leading-top}
 use lib.Ieee.{size}
-use lib.Pow.{pow-pos, pow-add, shl-shr}
+use lib.Pow.{pow-pos}
 use Rattle.bits.specs.Ops.{xorW, andW, notW, shlW, shrW, spreadW}
 use Rattle.bits.proofs.Digits.{bit-lt}
 use Rattle.bits.proofs.Xor.{xor-zero, xor-zero-l, xor-assoc}
@@ -18,7 +18,7 @@ use Rattle.bits.proofs.Places.{shr-is}
 use Rattle.binary64.proofs.Cases.{size-is}
 use Rattle.binary64.proofs.Encode.{to-top}
 use Rattle.plans.proofs.Fields.{spread-run, stage-left}
-use Rattle.plans.proofs.Shifts.{not-is, shl-keeps}
+use Rattle.plans.proofs.Shifts.{not-is, moved}
 use Rattle.plans.proofs.Lanes.{isZero}
 use Rattle.plans.proofs.sum.Run.{leadingW, foldW, leftW, countW, countStart, Normal, stage, normalStart, normalW}
 use Rattle.plans.proofs.sum.Leading.{Folds, fold-step, fold-start, fold-twice, leading-lt}
@@ -36,13 +36,9 @@ from-bit n k =
     halves : (q : ℕ) → q / 2 * 2 + q % 2 ≡ q
     halves q = omega arith
 
--- the lowest bit of x, moved to place k
-moved : (x k : ℕ) → k ≤ 63 → shrW (shlW x 63) (63 - k) ≡ x % 2 * 2 ^ k
-moved x k l =
-    let e : 63 ≡ k + (63 - k) = omega arith in
-    shr-is (shlW x 63) (63 - k)
-    ∙ ap (λ (v : ℕ). v / 2 ^ (63 - k)) (shl-keeps 1 63 x refl ∙ ap (λ (v : ℕ). x % 2 * v) (ap (λ (n : ℕ). 2 ^ n) e ∙ pow-add 2 k (63 - k)) ∙ sym (mul-assoc (x % 2) (2 ^ k) (2 ^ (63 - k))))
-    ∙ shl-shr (x % 2 * 2 ^ k) (63 - k)
+-- the lowest bit of x at place k
+bit-at : (x k : ℕ) → k ≤ 63 → shrW (shlW x 63) (63 - k) ≡ x % 2 * 2 ^ k
+bit-at x k l = let e : 63 ≡ 63 - k + k = omega arith in ap (λ (n : ℕ). shrW (shlW x n) (63 - k)) e ∙ moved 1 k (63 - k) x (omega arith)
 
 -- bit 63 of NOT w
 pub top-not : (w : ℕ) → w < 2 ^ 64 → shrW (notW w) 63 ≡ 1 - w / 2 ^ 63
@@ -85,7 +81,7 @@ module _ (z lz c k : ℕ) (n : Normal) (l : k ≤ 63) (s : Staged z lz c (suc k)
       let m : ℕ = lz - 1 in
       let b : ℕ = m / 2 ^ k % 2 in
       let small : b * 2 ^ k < 2 ^ suc k = subst (λ (p : ℕ). b * 2 ^ k < p) (sym (pow-suc 2 k)) (omega (arith, mul-le-mul-right (2 ^ k) (bit-lt (m / 2 ^ k)), pow-pos k)) in
-      ap₂ xorW (s .count) (moved x k l ∙ ap (λ (v : ℕ). v * 2 ^ k) (fold-odd m k (n .twice) (s .folds-twice)))
+      ap₂ xorW (s .count) (bit-at x k l ∙ ap (λ (v : ℕ). v * 2 ^ k) (fold-odd m k (n .twice) (s .folds-twice)))
       ∙ xor-assoc c (m / 2 ^ suc k * 2 ^ suc k) (b * 2 ^ k)
       ∙ ap (xorW c) (xor-packed (m / 2 ^ suc k) (suc k) (b * 2 ^ k) small ∙ from-bit m k)
 
@@ -199,7 +195,7 @@ module _ (z : ℕ) (h : z < 2 ^ 64) where
   start-is =
       let th : ℕ = leadingW z in
       let n : shrW (notW th) 63 % 2 ≡ isZero L = ap (λ (x : ℕ). x % 2) (top-not th (leading-lt z) ∙ ap (λ (x : ℕ). 1 - x) leading-first) ∙ twice L in
-      ap₂ xorW (moved th 11 (omega arith) ∙ ap (λ (x : ℕ). x * 2 ^ 11) leading-odd) (spread-run (shrW (notW th) 63) 48 16 refl ∙ ap (λ (x : ℕ). x * (2 ^ 16 - 1)) n)
+      ap₂ xorW (moved 1 11 52 th refl ∙ ap (λ (x : ℕ). x * 2 ^ 11) leading-odd) (spread-run (shrW (notW th) 63) 48 16 refl ∙ ap (λ (x : ℕ). x * (2 ^ 16 - 1)) n)
     where
       twice : (n : ℕ) → (1 - (1 - isZero n)) % 2 ≡ isZero n
       twice n = omega arith

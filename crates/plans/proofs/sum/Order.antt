@@ -11,8 +11,8 @@ use Rattle.bits.proofs.Choice.{and-ones}
 use Rattle.bits.proofs.Places.{shr-is}
 use Rattle.binary64.specs.Number.{expo}
 use Rattle.plans.proofs.Fields.{low-bits, spread-is}
-use Rattle.plans.proofs.Shifts.{not-is}
-use Rattle.plans.proofs.sum.Run.{exponentW, compareW, firstW, nearW, largerW, smallerW}
+use Rattle.plans.proofs.Shifts.{not-is, exponentW}
+use Rattle.plans.proofs.sum.Run.{compareW, firstW, nearW, largerW, smallerW}
 use Rattle.plans.proofs.sum.Compare.{opposed, up-is, opposed-is, compared}
 
 -- ---- the mask and the difference, from the carry out and the sum

@@ -6,12 +6,12 @@ use native.Mathlib.Nat.{mul-mod-left}
 use native.Mathlib.Omega.{arith}
 use lib.Pow as Pow
 use Rattle.bits.specs.Ops.{xorW, andW, notW, shlW, shrW}
-use Rattle.bits.proofs.Xor.{xor·ring}
+use Rattle.bits.proofs.Xor.{xor-assoc, xor-swap-r}
 use Rattle.bits.proofs.Bound.{and-lt, not-lt, shl-lt, shr-lt}
 use Rattle.bits.proofs.Sum.{xor-packed}
 use Rattle.bits.proofs.Places.{shr-is, and-block}
 use Rattle.plans.proofs.Fields.{field, pack}
-use Rattle.plans.proofs.Shifts.{shl-keeps}
+use Rattle.plans.proofs.Shifts.{shl-keeps, and-fields}
 use Rattle.plans.proofs.Lanes.{andDown}
 use Rattle.plans.proofs.AddWithRun.{pairAnd, pairG, pairN, Words, pair}
 use Rattle.plans.proofs.TopRun.{Top, top-is, top-xor, top-shl, topRun}
@@ -19,25 +19,16 @@ use Rattle.plans.proofs.sum.Run.{Riding, rideAnd, ride}
 
 -- three fields
 abbrev fields : ℕ → ℕ → ℕ → ℕ
-fields x y z = x * 2 ^ 48 + (y * 2 ^ 16 + z)
+fields x y z = (x * 2 ^ 32 + y) * 2 ^ 16 + z
 
 -- the two sides of the AND
 left : (p l : ℕ) → p < 2 ^ 16 → l < 2 ^ 32 → xorW (xorW p (shlW p 48)) (shlW l 16) ≡ fields p l p
-left p l hp hl = regroup p (shlW p 48) (shlW l 16) ∙ ap (λ (x : ℕ). xorW x (shlW p 48)) (pack 32 16 p l hp hl (omega arith)) ∙ pack 16 48 (l * 2 ^ 16 + p) p (omega arith) hp (omega arith)
-  where
-    regroup : (x y z : ℕ) → xorW (xorW x y) z ≡ xorW (xorW x z) y
-    regroup x y z = simp xor·ring
+left p l hp hl =
+    xor-swap-r p (shlW p 48) (shlW l 16) ∙ ap (λ (x : ℕ). xorW x (shlW p 48)) (pack 32 16 p l hp hl (omega arith)) ∙ pack 16 48 (l * 2 ^ 16 + p) p (omega arith) hp (omega arith)
+    ∙ omega arith
 
 right : (c m v : ℕ) → v < 2 ^ 16 → m < 2 ^ 32 → xorW (xorW (c * 2 ^ 48) v) (shlW m 16) ≡ fields c m v
-right c m v hv hm = regroup (c * 2 ^ 48) v (shlW m 16) ∙ ap (xorW (c * 2 ^ 48)) (pack 32 16 v m hv hm (omega arith)) ∙ xor-packed c 48 (m * 2 ^ 16 + v) (omega arith)
-  where
-    regroup : (x y z : ℕ) → xorW (xorW x y) z ≡ xorW x (xorW y z)
-    regroup x y z = simp xor·ring
-
--- and the AND's fields
-and-fields : (p c l m v : ℕ) → p < 2 ^ 16 → l < 2 ^ 32 → v < 2 ^ 16 → m < 2 ^ 32 → andW (fields p l p) (fields c m v) ≡ fields (andW p c) (andW l m) (andW p v)
-and-fields p c l m v hp hl hv hm =
-    and-block 48 p c (l * 2 ^ 16 + p) (m * 2 ^ 16 + v) (omega arith) (omega arith) ∙ ap (λ (x : ℕ). andW p c * 2 ^ 48 + x) (and-block 16 l m p v hp hv)
+right c m v hv hm = xor-assoc (c * 2 ^ 48) v (shlW m 16) ∙ ap (xorW (c * 2 ^ 48)) (pack 32 16 v m hv hm (omega arith)) ∙ xor-packed c 48 (m * 2 ^ 16 + v) (omega arith) ∙ omega arith
 
 -- ---- a step
 module _ (k l : ℕ) (w : Words) (t : Top (w .G)) (hl : l < 2 ^ 32) where
@@ -76,7 +67,7 @@ module _ (k l : ℕ) (w : Words) (t : Top (w .G)) (hl : l < 2 ^ 32) where
   ride-and =
       ap₂ (λ (x y : ℕ). andW (xorW (xorW x (shlW x 48)) (shlW l 16)) (xorW (xorW (shlW (w .G) k) y) (shlW m 16))) (shr-is (notW (w .N)) 48) (shr-is (shlW (w .N) k) 48)
       ∙ ap (λ (x : ℕ). andW (xorW (xorW p (shlW p 48)) (shlW l 16)) (xorW (xorW x v) (shlW m 16))) c-is
-      ∙ ap₂ andW (left p l p-lt hl) (right c m v v-lt m-lt) ∙ and-fields p c l m v p-lt hl v-lt m-lt
+      ∙ ap₂ andW (left p l p-lt hl) (right c m v v-lt m-lt) ∙ and-fields 32 16 p l p c m v hl m-lt p-lt v-lt
 
   pair-and : pairAnd 48 k (w .G) (w .N) ≡ fields (andW p c) 0 (andW p v)
   unfolding pairAnd p v

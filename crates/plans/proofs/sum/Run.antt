@@ -1,23 +1,17 @@
 -- What the sum's plan computes, as named functions of words: each is a segment's result in terms of what the segment reads.
--- That the run of the plan gives just this is by computation. Rests on Registers, AddWithRun, TopRun and RunOfOnes.
+-- That the run of the plan gives just this is by computation. Rests on Registers, Shifts, AddWithRun, TopRun and RunOfOnes.
 use mathlib.Core.Path.{_≡_, refl}
 use Prim.Native.Nat.{ℕ, _-_, _/_, _^_}
 use lib.ListN.{getD}
 use Rattle.bits.specs.Ops.{xorW, andW, notW, shlW, shrW, spreadW}
 use Rattle.plain.specs.Machine.{stepped}
 use Rattle.plans.specs.SumPlan.{sumSteps}
+use Rattle.plans.proofs.Shifts.{lowest, exponentW}
 use Rattle.plans.proofs.RunOfOnes.{nextN, nextF, stageAnd, runOf, orOf}
 use Rattle.plans.proofs.CarryRun.{carryN}
 use Rattle.plans.proofs.AddWithRun.{pairAnd, pairG, pairN, Words, begin, pair}
 use Rattle.plans.proofs.TopRun.{topStart}
 use Rattle.plans.proofs.Registers.{runSteps, tab}
-
-unfoldable pub exponentW : ℕ → ℕ
-exponentW a = shrW (shlW a 1) 53
-
--- the lowest bit of w
-unfoldable pub lowestW : ℕ → ℕ
-lowestW w = shrW (shlW w 63) 63
 
 -- ---- carries, run and the lanes that ride beside them
 pub record Riding : Type 0 where
@@ -225,11 +219,11 @@ normalW z = stage 0 (stage 1 (stage 2 (stage 3 (stage 4 (stage 5 (normalStart z)
 
 -- ---- the exponent: NOT E_a + mu in the top places; beside the first AND, in place 0, whether there is one leading zero and E_a is odd
 unfoldable pub firstAnd : ℕ → ℕ → ℕ → ℕ
-firstAnd e mu th = andW (xorW (shlW (notW e) 48) (shrW (xorW (shlW th 1) th) 63)) (xorW (shlW mu 48) (lowestW e))
+firstAnd e mu th = andW (xorW (shlW (notW e) 48) (shrW (xorW (shlW th 1) th) 63)) (xorW (shlW mu 48) (lowest e))
 
 -- whether there is none, or that
 unfoldable pub fewW : ℕ → ℕ → ℕ → ℕ
-fewW e mu th = xorW (lowestW (firstAnd e mu th)) (shrW (notW th) 63)
+fewW e mu th = xorW (lowest (firstAnd e mu th)) (shrW (notW th) 63)
 
 -- two lanes, inverted
 unfoldable pub resultLanes : ℕ → ℕ → ℕ → ℕ
@@ -304,5 +298,5 @@ sumModel x y =
 
 -- the plan's run, from any registers
 pub sum-run : (f : ℕ → ℕ) → getD (runSteps sumSteps (tab f 0 32)) 2 0 ≡ sumModel (f 0) (f 1)
-unfolding sumSteps stepped sumModel exponentW lowestW compareLanes compareW rideAnd firstW nearW largerW smallerW significand10 significand9 exactAnd exactD exactW usedW secondAnd secondRider changedW rightW smallW largeW refoldW lostW lost32 lost16 alignedW riddenAnd rider summedW turnedW aroundW aroundSign orShr leadingW foldW leftW countW countStart normalW firstAnd fewW resultLanes exponentRun lessW underW packedW droppedW roundedW chosenW finishW topStart carryN pairAnd pairG pairN runOf orOf nextN nextF stageAnd
+unfolding sumSteps stepped sumModel compareLanes compareW rideAnd firstW nearW largerW smallerW significand10 significand9 exactAnd exactD exactW usedW secondAnd secondRider changedW rightW smallW largeW refoldW lostW lost32 lost16 alignedW riddenAnd rider summedW turnedW aroundW aroundSign orShr leadingW foldW leftW countW countStart normalW firstAnd fewW resultLanes exponentRun lessW underW packedW droppedW roundedW chosenW finishW topStart carryN pairAnd pairG pairN runOf orOf nextN nextF stageAnd
 sum-run f = refl

@@ -11,9 +11,10 @@ use Rattle.bits.proofs.Digits.{digit, bit-lt}
 use Rattle.bits.proofs.Places.{shr-is}
 use Rattle.binary64.specs.Number.{frac}
 use Rattle.plans.proofs.Fields.{pack, stage-right}
+use Rattle.plans.proofs.Shifts.{moved}
 use Rattle.plans.proofs.Lanes.{isZero}
 use Rattle.plans.proofs.sum.Run.{significand10, significand9, changedW, rightW, largeW, lostW}
-use Rattle.plans.proofs.sum.Lost.{moved, dropped, lost-parts}
+use Rattle.plans.proofs.sum.Lost.{dropped, lost-parts}
 
 -- ---- significands
 significand-is : (a k r : ℕ) → r + k ≡ 12 → k < 12 → xorW (shrW (shlW a (r + k)) r) (shlW 1 (52 + k)) ≡ (2 ^ 52 + frac a) * 2 ^ k

@@ -2,24 +2,23 @@
 -- the first beside the shift by 2, the others beside the bits lost. What they leave of v, and that the shift is as it were alone. Rests on Run, Fields, Exact and Tests.
 use mathlib.Core.Path.{_≡_, refl, sym, ap, ap₂, _∙_}
 use Prim.Native.Nat.{ℕ, _+_, _-_, _*_, _/_, _%_, _^_, _<_}
-use native.Mathlib.Nat.{add-zero, mul-comm, mul-assoc}
+use native.Mathlib.Nat.{mul-comm, mul-assoc}
 use native.Mathlib.Omega.{arith}
 use lib.Dec.{eqb, eqb→eq}
 use lib.Pow.{low}
 use Rattle.bits.specs.Ops.{xorW, andW, notW, shlW, shrW, spreadW}
 use Rattle.bits.proofs.Digits.{bit}
-use Rattle.bits.proofs.Xor.{xor-comm, xor-self, xor-cancel-r}
+use Rattle.bits.proofs.Xor.{xor-comm, xor-cancel-r}
 use Rattle.bits.proofs.Bound.{and-lt, xor-lt}
 use Rattle.bits.proofs.Choice.{and-spread}
 use Rattle.bits.proofs.Sum.{xor-packed}
-use Rattle.bits.proofs.Places.{shr-is, and-block, xor-block}
+use Rattle.bits.proofs.Places.{shr-is, and-block}
 use Rattle.plans.proofs.Fields.{low-bits, spread-run-at}
-use Rattle.plans.proofs.Shifts.{not-is}
+use Rattle.plans.proofs.Shifts.{not-is, moved, changes}
 use Rattle.plans.proofs.Lanes.{isZero, andDown}
 use Rattle.plans.proofs.Tests.{each}
 use Rattle.plans.proofs.sum.Run.{changedW, rightW, usedW, secondAnd, secondRider, smallW}
 use Rattle.plans.proofs.sum.Exact.{and-run}
-use Rattle.plans.proofs.sum.Lost.{moved}
 use Rattle.plans.proofs.sum.Shift.{stagesW}
 
 -- ---- the eight bits
@@ -87,11 +86,7 @@ module _ (d v m : ℕ) (hv : v < 256) (hm : m < 2 ^ 54) where
 
   X-is : xorW (shrW (m * 2 ^ 8) 2) (m * 2 ^ 8) ≡ X * 2 ^ 6
   unfolding X
-  X-is =
-      let p : m * 2 ^ 8 / 2 ^ 2 ≡ m * 2 ^ 6 + 0 = omega arith in
-      let q : m * 2 ^ 8 ≡ m * 4 * 2 ^ 6 + 0 = omega arith in
-      ap₂ xorW (shr-is (m * 2 ^ 8) 2 ∙ p) q ∙ xor-block 6 m (m * 4) 0 0 (omega arith) (omega arith)
-      ∙ ap (λ (u : ℕ). xorW m (m * 4) * 2 ^ 6 + u) (xor-self 0) ∙ add-zero (xorW m (m * 4) * 2 ^ 6)
+  X-is = changes 2 6 m
 
   r-lt : rider4 v < 2 ^ 6
   r-lt = let h = rider4-lt v in omega arith
