@@ -16,7 +16,6 @@ use Rattle.word.specs.declared.step.Decoded.the-variants.{Good, Bad}
 use Rattle.checks.specs.declared.reader.Read.{Read}
 use Rattle.checks.specs.declared.reader.Read.the-variants.{Word, End}
 use Rattle.checks.specs.Reader.{readAt}
-use Rattle.word.specs.Encoding.{isGood}
 use Rattle.checks.specs.Answers.{firstOf, firstBad, FirstBad, FirstBadFound}
 
 module _ (l : List ℕ) (i : ℕ) where
@@ -38,36 +37,20 @@ module _ (step : ℕ → Decoded) (l : List ℕ) (i : ℕ) where
   Passed = firstBad step l ≡ i + firstBad step (drop i l)
 
   -- a good word is passed
-  passed-one : Passed → i < length l → {s : Step} → step (getD l i 0) ≡ Good s → firstBad step l ≡ i + 1 + firstBad step (drop (i + 1) l)
+  pub passed-one : Passed → i < length l → {s : Step} → step (getD l i 0) ≡ Good s → firstBad step l ≡ i + 1 + firstBad step (drop (i + 1) l)
   passed-one h lt {s} e =
       h ∙ ap (λ (r : List ℕ). i + firstBad step r) (drop-cons l i 0 lt)
       ∙ ap (λ (d : Decoded). i + firstOf d (firstBad step (drop (suc i) l))) e
       ∙ ap (λ (k : ℕ). i + suc (firstBad step (drop k l))) (sym (add-one i)) ∙ omega arith
 
   -- the search ends at a bad word
-  at-bad : Passed → i < length l → step (getD l i 0) ≡ Bad → i ≡ firstBad step l
+  pub at-bad : Passed → i < length l → step (getD l i 0) ≡ Bad → i ≡ firstBad step l
   at-bad h lt e =
       sym (h ∙ ap (λ (r : List ℕ). i + firstBad step r) (drop-cons l i 0 lt) ∙ ap (λ (d : Decoded). i + firstOf d (firstBad step (drop (suc i) l))) e ∙ add-zero i)
 
   -- or at the end
   pub at-end : Passed → length l ≤ i → i ≡ firstBad step l
   at-end h le = sym (h ∙ ap (λ (r : List ℕ). i + firstBad step r) (drop-of-length-le l le) ∙ add-zero i)
-
--- the turns of a search that only asks whether a word is good
-good-step : (d : Decoded) → isGood d ≡ true → (s : Step) × (d ≡ Good s)
-good-step (Good s) e = (s, refl)
-good-step Bad e = let z : _≡_ {A = ℕ} 0 1 = ap (λ (b : Bool). cond {A = ℕ} b 1 0) e in absurd (omega arith)
-
-bad-step : (d : Decoded) → isGood d ≡ false → d ≡ Bad
-bad-step (Good s) e = let z : _≡_ {A = ℕ} 1 0 = ap (λ (b : Bool). cond {A = ℕ} b 1 0) e in absurd (omega arith)
-bad-step Bad e = refl
-
-module _ (step : ℕ → Decoded) (l : List ℕ) (i : ℕ) where
-  pub asked-one : Passed step l i → i < length l → isGood (step (getD l i 0)) ≡ true → firstBad step l ≡ i + 1 + firstBad step (drop (i + 1) l)
-  asked-one h lt e = let q = good-step (step (getD l i 0)) e in passed-one step l i h lt (q .1)
-
-  pub asked-bad : Passed step l i → i < length l → isGood (step (getD l i 0)) ≡ false → i ≡ firstBad step l
-  asked-bad h lt e = at-bad step l i h lt (bad-step (step (getD l i 0)) e)
 
 -- the place is that of the first bad word, and the end only where there is none
 pub first-bad : FirstBadFound

@@ -5,6 +5,7 @@ ghost use Rattle.word.specs.Encoding.{planStep};
 use crate::answer::Answer;
 use crate::reader::Read;
 use crate::reader::word_at;
+use word::step::Decoded;
 use word::step_word::StepWord;
 
 // The place of the plan's first bad word, or the plan's end where no word is bad.
@@ -16,9 +17,9 @@ pub fn plan_first_bad(plan: &[u32]) -> usize
         let Read::Word(w) = word_at(plan, i) else {
             break i;
         };
-        if !StepWord::of(w).is_plan_word() {
+        let Decoded::Good(_) = StepWord::of(w).plan_step() else {
             break i;
-        }
+        };
         i += 1;
     }
 }

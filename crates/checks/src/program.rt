@@ -1,9 +1,9 @@
-// Checking a share program: the search for its first bad word, by kinds and fields alone, since a run checks its whole program first; and
-// the check that every call on a share program goes by.
+// Checking a share program: the search for its first bad word, and the check that every call on a share program goes by.
 ghost use mathlib.Core.Path.{_≡_};
 ghost use Rattle.checks.specs.Answers.{done, firstBad, programChecked};
 ghost use Rattle.word.specs.Encoding.{programStep};
 use crate::answer::Answer;
+use word::step::Decoded;
 use word::step_word::StepWord;
 
 // The place of the share program's first bad word, or the program's end where no word is bad.
@@ -15,9 +15,9 @@ pub fn program_first_bad(program: &[u32]) -> usize
         if program.len() <= i {
             break i;
         }
-        if !StepWord::of(program[i]).is_program_word() {
+        let Decoded::Good(_) = StepWord::of(program[i]).program_step() else {
             break i;
-        }
+        };
         i += 1;
     }
 }

@@ -1,7 +1,7 @@
 // The plan reader: the lent plan and the number of the next word. A struct that holds a reference is outside what the borrow checker
 // covers, so the functions over it only take it apart or make it; the work is in functions of plain parameters below and above them.
 ghost use mathlib.Core.Path.{_≡_};
-ghost use Prim.Native.Nat.{_-_};
+ghost use Prim.Native.Nat.{_+_, _-_, _<_, _^_};
 ghost use lib.ListN.{length};
 ghost use Rattle.checks.specs.Reader.{readAt};
 
@@ -41,6 +41,17 @@ pub fn at<'a>(plan: &'a [u32], next: usize) -> PlanReader<'a>
     ensures { λ r. ⌜ (r .plan ≡ plan .entry) × (r .next ≡ next) ⌝ }
 {
     PlanReader { plan, next }
+}
+
+// The reader one word on.
+pub fn advance<'a>(r: PlanReader<'a>) -> PlanReader<'a>
+    requires { ⌜ r .next + 1 < 2 ^ 64 ⌝ }
+    ensures { λ q. ⌜ (q .plan ≡ r .entry .plan) × (q .next ≡ r .entry .next + 1) ⌝ }
+{
+    PlanReader {
+        plan: r.plan,
+        next: r.next + 1,
+    }
 }
 
 // The next word, or the plan's end.

@@ -7,34 +7,32 @@ ghost use Rattle.word.specs.Table as spec;
 use word::step::Step;
 
 // A cell's word, 0 past the last cell.
-pub fn read(cells: &[u64], c: u16) -> u64
+pub fn read(cells: &[u64], c: usize) -> u64
     ensures { λ r. ⌜ r ≡ getD (now (cells .entry)) c 0 ⌝ }
 {
-    let c = c as usize;
     if c < cells.len() { cells[c] } else { 0 }
 }
 
 // Puts a word into a cell; past the last cell nothing changes.
-pub fn write(cells: &mut [u64], d: u16, v: u64)
+pub fn write(cells: &mut [u64], d: usize, v: u64)
     ensures { λ _. ⌜ now (cells .exit) ≡ set (now (cells .entry)) d v ⌝ }
 {
-    let d = d as usize;
     if d < cells.len() {
         cells[d] = v;
     }
 }
 
 // Shifts by any number: nothing is left from 64 on.
-pub fn shl(a: u64, b: u16) -> u64
+pub fn shl(a: u64, b: u32) -> u64
     ensures { λ r. ⌜ r ≡ shlW a b ⌝ }
 {
-    if b < 64 { a << (b as u32) } else { 0 }
+    if b < 64 { a << b } else { 0 }
 }
 
-pub fn shr(a: u64, b: u16) -> u64
+pub fn shr(a: u64, b: u32) -> u64
     ensures { λ r. ⌜ r ≡ shrW a b ⌝ }
 {
-    if b < 64 { a >> (b as u32) } else { 0 }
+    if b < 64 { a >> b } else { 0 }
 }
 
 // The wrapping sum: the carry out of bit 63 is lost on purpose.
@@ -45,7 +43,7 @@ pub fn add(x: u64, y: u64) -> u64
 }
 
 // The cell that a step sets.
-pub fn dest(s: Step) -> u16
+pub fn dest(s: Step) -> usize
     ensures { λ r. ⌜ r ≡ spec.dest s ⌝ }
 {
     match s {

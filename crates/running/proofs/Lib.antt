@@ -1,5 +1,6 @@
--- Laws for the proofs of the functions: one turn of a loop over share words (Turns), a good word by its kind (ByKind), what holds where a run
+-- Laws for the proofs of the functions: one turn of a loop over share words (Turns), what the rule of share programs says of a step (Steps), what a good word takes of the tape (ByKind), what holds where a run
 -- is done (Done), and the bounds on what it reports (Bounds).
+pub mod Steps
 pub mod Turns
 pub mod ByKind
 pub mod Done

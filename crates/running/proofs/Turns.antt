@@ -1,27 +1,14 @@
 -- One turn of a loop over share words: its effect on cells and tape. Rests on masking's InARow.
-use mathlib.Core.Path.{_≡_, refl, sym, ap, ap₂, _∙_}
+use mathlib.Core.Path.{_≡_, sym, ap, _∙_}
 use mathlib.Core.List.{List, [], _∷_, _++_}
 use Prim.Native.Nat.{ℕ, _+_, _-_, _<_, min}
-use native.Mathlib.Nat.{add-zero, add-sub-cancel-left, le-of-eq}
+use native.Mathlib.Nat.{add-sub-cancel-left, le-of-eq}
 use native.Mathlib.Numerals.{add-one}
 use lib.ListN.{length, getD, take, drop, length-drop}
-use lib.Seq.{drop-cons, drop-drop, getD-drop, take-all}
-use Rattle.word.specs.declared.step.Decoded.{Decoded}
-use Rattle.word.specs.declared.step.Decoded.the-variants.{Good, Bad}
-use Rattle.word.specs.Encoding.{programStep}
-use Rattle.masking.specs.Machine.{withStep, execStep, execSteps, exec, rands}
+use lib.Seq.{drop-cons, drop-drop, take-all}
+use Rattle.masking.specs.Machine.{exec, rands}
 use Rattle.masking.specs.Runs.{due}
 use Rattle.masking.proofs.InARow.{exec-append, rands-append, due-length, due-take}
-
-module _ (w : ℕ) where
-  -- one word looks at no more than one tape word
-  exec-next : (tape cells : List ℕ) → exec (w ∷ []) tape cells ≡ exec (w ∷ []) (getD tape 0 0 ∷ []) cells
-  unfolding execStep
-  exec-next tape cells = by (programStep w)
-    where
-      by : (d : Decoded) → execSteps (withStep d []) tape cells ≡ execSteps (withStep d []) (getD tape 0 0 ∷ []) cells
-      by (Good s) = refl
-      by Bad = refl
 
 module _ (words : List ℕ) (i : ℕ) (h : i < length words) where
   next-word : drop i words ≡ (getD words i 0 ∷ []) ++ drop (i + 1) words
@@ -32,13 +19,11 @@ module _ (words : List ℕ) (i : ℕ) (h : i < length words) where
 
   pub exec-turn : (tape cells : List ℕ) (t : ℕ)
       → exec (drop i words) (drop t tape) cells
-      ≡ exec (drop (i + 1) words) (drop (t + rands (getD words i 0 ∷ [])) tape) (exec (getD words i 0 ∷ []) (getD tape t 0 ∷ []) cells)
+      ≡ exec (drop (i + 1) words) (drop (t + rands (getD words i 0 ∷ [])) tape) (exec (getD words i 0 ∷ []) (drop t tape) cells)
   exec-turn tape cells t =
       ap (λ (l : List ℕ). exec l (drop t tape) cells) next-word
       ∙ exec-append (getD words i 0 ∷ []) (drop (i + 1) words) (drop t tape) cells
-      ∙ ap₂ (λ (a b : List ℕ). exec (drop (i + 1) words) a b) (drop-drop (rands (getD words i 0 ∷ [])) t tape)
-      (exec-next (getD words i 0) (drop t tape) cells
-      ∙ ap (λ (x : ℕ). exec (getD words i 0 ∷ []) (x ∷ []) cells) (getD-drop t tape 0 0 ∙ ap (λ (k : ℕ). getD tape k 0) (add-zero t)))
+      ∙ ap (λ (a : List ℕ). exec (drop (i + 1) words) a (exec (getD words i 0 ∷ []) (drop t tape) cells)) (drop-drop (rands (getD words i 0 ∷ [])) t tape)
 
 -- the part of a program that a run does, and its length
 pub due-part : (P : List ℕ) (m b : ℕ) → take (m + min b (length P - m) - m) (drop m P) ≡ due P m b

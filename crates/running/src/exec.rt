@@ -1,12 +1,15 @@
-// The share machine: good words done in order on the cells by their kinds and fields, RAND taking the next tape word. The calls above
-// check the whole program first.
+// The share machine: words done in order on the cells, each taken apart into its step, RAND taking the next tape word. The calls above
+// check the whole program first; a bad word would do nothing, as in the definition.
 ghost use mathlib.Core.Path.{_≡_};
 ghost use mathlib.Core.List.{[], _∷_};
 ghost use Prim.Native.Nat.{_+_, _≤_};
-ghost use lib.ListN.{getD, length, set};
-ghost use Rattle.word.specs.Encoding.{fieldA, fieldB, fieldD, kindOf};
+ghost use lib.Dec.{T};
+ghost use lib.ListN.{drop, length};
+ghost use Rattle.word.specs.Encoding.{inProgram};
 ghost use Rattle.masking.specs.Machine as machine;
-ghost use Rattle.running.specs.Good.{AllGood, GoodWord};
+ghost use Rattle.running.specs.Good.{AllGood};
+use word::step::Decoded;
+use word::step::Step;
 use word::step_word::StepWord;
 
 // The RANDs among good words: those of kind 9.
@@ -23,56 +26,73 @@ pub fn rands(words: &[u32]) -> usize
     count
 }
 
-// The cell that field a names, of 512.
-fn at_a(w: u32, cells: &[u64]) -> u64
+// One step of a share program on 512 cells, over a tape that has a word for it where it is RAND; the answer is the next tape word's place. A
+// share program has no ADD.
+fn step_done(s: Step, tape: &[u64], t: usize, cells: &mut [u64]) -> usize
+    requires { ⌜ T (inProgram s) ⌝ }
+    requires { ⌜ t + machine.takes s ≤ length (now tape) ⌝ }
     requires { ⌜ length (now cells) ≡ 512 ⌝ }
-    ensures { λ r. ⌜ r ≡ getD (now (cells .entry)) (fieldA w) 0 ⌝ }
+    ensures place { λ r. ⌜ r ≡ t + machine.takes s ⌝ }
+    ensures cells { λ _. ⌜ now (cells .exit) ≡ machine.execStep s (drop t (now (tape .entry))) (now (cells .entry)) ⌝ }
 {
-    let a = ((w >> StepWord::A_AT) % StepWord::FIELD) as usize;
-    cells[a]
-}
-
-// The cell that field b names.
-fn at_b(w: u32, cells: &[u64]) -> u64
-    requires { ⌜ length (now cells) ≡ 512 ⌝ }
-    ensures { λ r. ⌜ r ≡ getD (now (cells .entry)) (fieldB w) 0 ⌝ }
-{
-    let b = (w % StepWord::FIELD) as usize;
-    cells[b]
-}
-
-// What a good word that is no RAND sets its cell to, on 512 cells, by its kind and fields. Each arm reads the cells that it needs and nothing
-// comes before the match, so that all kinds, with RAND below, are told apart by one jump.
-fn value(kind: u32, w: u32, cells: &[u64]) -> u64
-    requires { ⌜ (length (now cells) ≡ 512) × ((kind ≡ kindOf w) × (GoodWord w × (kind ≡ 9 → ⊥))) ⌝ }
-    ensures { λ r. ⌜ set (now (cells .entry)) (fieldD w) r ≡ machine.exec (w ∷ []) [] (now (cells .entry)) ⌝ }
-{
-    match kind {
-        StepWord::CONST => (w % StepWord::NUMBERS) as u64,
-        StepWord::XOR => at_a(w, cells) ^ at_b(w, cells),
-        StepWord::AND => at_a(w, cells) & at_b(w, cells),
-        StepWord::NOT => !at_a(w, cells),
-        StepWord::SHL => at_a(w, cells) << ((w % StepWord::FIELD) % StepWord::SHIFTS),
-        StepWord::SHR => at_a(w, cells) >> ((w % StepWord::FIELD) % StepWord::SHIFTS),
-        _ => (at_a(w, cells) % 2) * u64::MAX,
+    match s {
+        Step::Const { d, k } => {
+            cells[d] = k as u64;
+            t
+        }
+        Step::Xor { d, a, b } => {
+            cells[d] = cells[a] ^ cells[b];
+            t
+        }
+        Step::And { d, a, b } => {
+            cells[d] = cells[a] & cells[b];
+            t
+        }
+        Step::Not { d, a } => {
+            cells[d] = !cells[a];
+            t
+        }
+        Step::Shl { d, a, b } => {
+            cells[d] = cells[a] << b;
+            t
+        }
+        Step::Shr { d, a, b } => {
+            cells[d] = cells[a] >> b;
+            t
+        }
+        Step::Spread { d, a } => {
+            cells[d] = (cells[a] % 2) * u64::MAX;
+            t
+        }
+        Step::Add { d: _, a: _, b: _ } => t,
+        Step::Rand { d } => {
+            cells[d] = tape[t];
+            t + 1
+        }
     }
 }
 
-// Good words in order on 512 cells, over a tape that has enough words for them.
+// One word: a bad one does nothing.
+fn word_done(w: u32, tape: &[u64], t: usize, cells: &mut [u64]) -> usize
+    requires { ⌜ t + machine.rands (w ∷ []) ≤ length (now tape) ⌝ }
+    requires { ⌜ length (now cells) ≡ 512 ⌝ }
+    ensures place { λ r. ⌜ r ≡ t + machine.rands (w ∷ []) ⌝ }
+    ensures cells { λ _. ⌜ now (cells .exit) ≡ machine.exec (w ∷ []) (drop t (now (tape .entry))) (now (cells .entry)) ⌝ }
+{
+    let Decoded::Good(s) = StepWord::of(w).program_step() else {
+        return t;
+    };
+    step_done(s, tape, t, cells)
+}
+
+// Words in order on 512 cells, over a tape that has enough words for them.
 pub fn exec(words: &[u32], tape: &[u64], cells: &mut [u64])
-    requires { ⌜ (machine.rands (now words) ≤ length (now tape)) × ((length (now cells) ≡ 512) × AllGood (now words)) ⌝ }
+    requires { ⌜ machine.rands (now words) ≤ length (now tape) ⌝ }
+    requires { ⌜ length (now cells) ≡ 512 ⌝ }
     ensures { λ _. ⌜ now (cells .exit) ≡ machine.exec (now (words .entry)) (now (tape .entry)) (now (cells .entry)) ⌝ }
 {
     let mut t = 0;
     for i in 0..words.len() {
-        let w = words[i];
-        let kind = w >> StepWord::KIND_AT;
-        let d = ((w >> StepWord::D_AT) % StepWord::FIELD) as usize;
-        if kind == StepWord::RAND {
-            cells[d] = tape[t];
-            t += 1;
-        } else {
-            cells[d] = value(kind, w, cells);
-        }
+        t = word_done(words[i], tape, t, cells);
     }
 }

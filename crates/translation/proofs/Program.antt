@@ -1,7 +1,7 @@
 -- A plan's share program word by word: the words of each plan word stand where the last one's ended. Rests on masking's counts.
 use mathlib.Core.Path.{_≡_, refl, sym, ap, ap₂, _∙_}
-use mathlib.Core.List.{List, [], _∷_, _++_}
-use Prim.Native.Nat.{ℕ, zero, suc, _+_, _-_, _≤_, _<_}
+use mathlib.Core.List.{List, _++_}
+use Prim.Native.Nat.{ℕ, _+_, _-_, _≤_, _<_}
 use native.Mathlib.Nat.{zero-add}
 use native.Mathlib.Numerals.{add-one}
 use native.Mathlib.Omega.{arith}
@@ -9,10 +9,8 @@ use lib.ListN.{length, drop, getD, length-append, drop-of-length-le}
 use lib.Seq.{sets, sets-eq, length-sets, drop-cons}
 use Rattle.word.specs.Encoding.{planStep}
 use Rattle.masking.specs.Translation.{wordsFor, program}
-use Rattle.translation.specs.Inner as inner
 use Rattle.masking.specs.Foretold.{Accepted, foretoldWords}
 use Rattle.masking.proofs.emitted.Counts.{plan-counts}
-use Rattle.masking.proofs.emitted.Steps.{PlanWord, PlanWords, plan-words}
 use Rattle.checks.proofs.Slices.{sets-append}
 
 -- ---- a plan's words in turn
@@ -23,18 +21,7 @@ pub record Going (n : ℕ) (plan out₀ out : List ℕ) (at i : ℕ) : Type 0 wh
   pub ends : at + length (program n (drop i plan)) ≡ length (program n plan)
   pub long : length out ≡ length out₀
 
-plan-word : (plan : List ℕ) (i : ℕ) → PlanWords plan → i < length plan → PlanWord (getD plan i 0)
-plan-word [] i h l = absurd (omega arith)
-plan-word (w ∷ ws) zero h l = h .0
-plan-word (w ∷ ws) (suc i) h l = plan-word ws i (h .1) (omega arith)
-
 module _ (n : ℕ) (plan : List ℕ) (A : Accepted n plan) where
-  -- each is good
-  pub word-good : (i : ℕ) → i < length plan → inner.PlanWord (getD plan i 0)
-  word-good i l =
-      let p = plan-word plan i (plan-words plan (A .good)) l in
-      record { step = p .step; apart = p .apart }
-
   module _ (out₀ out : List ℕ) (at i : ℕ) (g : Going n plan out₀ out at i) (l : i < length plan) where
     next-word : program n (drop i plan) ≡ wordsFor n (planStep (getD plan i 0)) ++ program n (drop (i + 1) plan)
     next-word = ap (program n) (drop-cons plan i 0 l) ∙ ap (λ (k : ℕ). wordsFor n (planStep (getD plan i 0)) ++ program n (drop k plan)) (sym (add-one i))

@@ -1,6 +1,6 @@
 -- A plan's word straight: it is share 0's word, and in the kinds that come once per share the others' are in a row behind it. Rests on Rows and
 -- Laid, and on word's Together.
-use mathlib.Core.Path.{_≡_, refl, sym, ap, ap₂, _∙_}
+use mathlib.Core.Path.{_≡_, refl, sym, ap, ap₂, subst, _∙_}
 use mathlib.Core.Bool.{cond, not}
 use mathlib.Core.Logic.{⊎-elim}
 use mathlib.Core.List.{List, [], _∷_, _++_, map, append-nil}
@@ -11,7 +11,8 @@ use lib.Dec.{T, eqb, ltb, ltb→lt}
 use lib.ListN.{length}
 use Rattle.word.specs.declared.step.Step.{Step}
 use Rattle.word.specs.declared.step.Step.the-variants.{Const, Xor, And, Not, Shl, Shr, Spread, Add, Rand}
-use Rattle.word.specs.Encoding.{kindOf, fieldD, fieldA, fieldB, kindNumber, numberFits, within, inPlan, planStep, put, wordOf}
+use Rattle.word.specs.declared.step.Decoded.the-variants.{Good}
+use Rattle.word.specs.Encoding.{kindOf, kindNumber, numberFits, within, inPlan, planStep, put, wordOf}
 use Rattle.word.specs.Parts.{OfParts, OfNone}
 use Rattle.word.specs.Table.{dest, reads, Each}
 use Rattle.word.proofs.Ranges.{both, within-cells, within-number}
@@ -33,14 +34,20 @@ module _ (w : ℕ) (lt : w < 2 ^ 32) (p : PlanWord w) where
       ⊎-elim (λ (q : OfParts inPlan w). ap wordOf (same-step (p .step) (q .step) (sym (p .apart) ∙ q .apart)) ∙ q .together)
       (λ (q : OfNone inPlan w). never (p .step) (sym (q .apart) ∙ p .apart)) (plan-exact .every w lt)
 
-kind-is : (w : ℕ) (p : PlanWord w) → kindOf w ≡ kindNumber (p .step)
+abbrev pub plan-good : (w : ℕ) (s : Step) → planStep w ≡ Good s → PlanWord w
+plan-good w s e = record { step = s; apart = e }
+
+pub kind-is : (w : ℕ) (p : PlanWord w) → kindOf w ≡ kindNumber (p .step)
 kind-is w p = taken-kind inPlan w (p .step) (p .apart)
 
 pub in-plan : (w : ℕ) (p : PlanWord w) → T (inPlan (p .step))
 in-plan w p = taken-rule inPlan w (p .step) (p .apart)
 
-pub registers : (s : Step) → T (inPlan s) → Each (λ r. r < 32) (dest s ∷ reads s)
+registers : (s : Step) → T (inPlan s) → Each (λ r. r < 32) (dest s ∷ reads s)
 registers s h = within-cells 32 s (both (not (eqb (kindNumber s) 9)) (within 32 s) h .1)
+
+pub registers-of : (s t : Step) → s ≡ t → T (inPlan s) → Each (λ r. r < 32) (dest t ∷ reads t)
+registers-of s t e h = registers t (subst (λ (x : Step). T (inPlan x)) e h)
 
 -- its shift is below 64
 number-lt : (s : Step) (b : ℕ) → T (inPlan s) → numberFits s ≡ ltb b 64 → b < 512
@@ -214,45 +221,20 @@ module _ (n w : ℕ) (lt : w < 2 ^ 32) (p : PlanWord w) where
       by (Add d a b) e h = absurd (nd e)
       by (Rand d) e h = absurd h
 
--- the fields of a step of three registers
-pub record Fields (w : ℕ) (f : ℕ → ℕ → ℕ → Step) (s : Step) : Type 0 where
-  pub same : s ≡ f (fieldD w) (fieldA w) (fieldB w)
-  pub d : fieldD w < 32
-  pub a : fieldA w < 32
-  pub b : fieldB w < 32
-
-fields : (f : ℕ → ℕ → ℕ → Step) (k d a b w : ℕ) → d < 32 → a < 32 → b < 32 → put k d a b ≡ w → Fields w f (f d a b)
-fields f k d a b w ld la lb t =
-    let e : w ≡ k % 16 * 2 ^ 28 + d * 2 ^ 18 + a * 2 ^ 9 + b = sym t ∙ put-is k d a b (omega arith) (omega arith) (omega arith) in
-    let x : fieldD w ≡ d = omega arith in
-    let y : fieldA w ≡ a = omega arith in
-    let z : fieldB w ≡ b = omega arith in
-    record { same = rw (x, y, z); d = rw x ld; a = rw y la; b = rw z lb }
-
-pub fields-of : (w : ℕ) → w < 2 ^ 32 → (p : PlanWord w) → (kindOf w ≡ 3 → Fields w And (p .step)) × (kindOf w ≡ 8 → Fields w Add (p .step))
-fields-of w lt p = by (p .step) (kind-is w p) (in-plan w p) (together w lt p)
-  where
-    other : (k : ℕ) (s : Step) → kindOf w ≡ k → (k ≡ 3 → ⊥) → (k ≡ 8 → ⊥) → (kindOf w ≡ 3 → Fields w And s) × (kindOf w ≡ 8 → Fields w Add s)
-    other k s e h g = (λ x. absurd (h (sym e ∙ x)), λ x. absurd (g (sym e ∙ x)))
-
-    by : (s : Step) → kindOf w ≡ kindNumber s → T (inPlan s) → wordOf s ≡ w → (kindOf w ≡ 3 → Fields w And s) × (kindOf w ≡ 8 → Fields w Add s)
-    by (Const d k) e h t = other 1 _ e (λ x. omega arith) (λ x. omega arith)
-    by (Xor d a b) e h t = other 2 _ e (λ x. omega arith) (λ x. omega arith)
-    by (And d a b) e h t =
-        let r = registers (And d a b) h in
-        (λ x. fields And 3 d a b w (r .0) (r .1 .0) (r .1 .1 .0) t, λ x. absurd (omega arith))
-    by (Not d a) e h t = other 4 _ e (λ x. omega arith) (λ x. omega arith)
-    by (Shl d a b) e h t = other 5 _ e (λ x. omega arith) (λ x. omega arith)
-    by (Shr d a b) e h t = other 6 _ e (λ x. omega arith) (λ x. omega arith)
-    by (Spread d a) e h t = other 7 _ e (λ x. omega arith) (λ x. omega arith)
-    by (Add d a b) e h t =
-        let r = registers (Add d a b) h in
-        (λ x. absurd (omega arith), λ x. fields Add 8 d a b w (r .0) (r .1 .0) (r .1 .1 .0) t)
-    by (Rand d) e h t = absurd h
+-- CONST's number is its word's low 18 bits
+pub number-is : (w : ℕ) → w < 2 ^ 32 → (p : PlanWord w) (d k : ℕ) → p .step ≡ Const d k → w % 262144 ≡ k
+unfolding put
+number-is w lt p d k e =
+    let t : put 1 d (k / 512) k ≡ w = sym (ap wordOf e) ∙ together w lt p in
+    let l : k < 2 ^ 18 = ltb→lt k (2 ^ 18) (rw e at (within-number 32 (p .step) (both (not (eqb (kindNumber (p .step)) 9)) (within 32 (p .step)) (in-plan w p) .1))) in
+    omega arith
 
 -- AND's and ADD's words
-pub and-words : (n w : ℕ) (p : PlanWord w) → Fields w And (p .step) → wordsFor n (planStep w) ≡ map wordOf (block scratch n (And (fieldD w) (fieldA w) (fieldB w)))
-and-words n w p f = step-words n w p ∙ ap (λ (s : Step). map wordOf (blocks scratch n (laidOut s))) (f .same) ∙ ap (map wordOf) (append-nil (block scratch n (And (fieldD w) (fieldA w) (fieldB w))))
+module _ (n d a b : ℕ) where
+  pub and-words : wordsFor n (Good (And d a b)) ≡ map wordOf (block scratch n (And d a b))
+  unfolding translated
+  and-words = ap (map wordOf) (append-nil (block scratch n (And d a b)))
 
-pub add-words : (n w : ℕ) (p : PlanWord w) → Fields w Add (p .step) → wordsFor n (planStep w) ≡ map wordOf (blocks scratch n (adding (fieldD w) (fieldA w) (fieldB w)))
-add-words n w p f = step-words n w p ∙ ap (λ (s : Step). map wordOf (blocks scratch n (laidOut s))) (f .same)
+  pub add-words : wordsFor n (Good (Add d a b)) ≡ map wordOf (blocks scratch n (adding d a b))
+  unfolding translated
+  add-words = refl

@@ -3,7 +3,7 @@
 use mathlib.Core.Path.{_≡_, refl, sym, ap, ap₂, _∙_}
 use mathlib.Core.Bool.{Bool, true, false, not}
 use mathlib.Core.Logic.{_⊎_, inl, inr}
-use Prim.Native.Nat.{ℕ, _+_, _*_, _/_, _%_, _^_, _<_}
+use Prim.Native.Nat.{ℕ, _+_, _*_, _/_, _%_, _^_, _≤_, _<_}
 use native.Mathlib.Nat.{mod-mod, mod-lt, mod-eq-of-lt, lt-of-lt-of-le, div-lt-iff-lt-mul, div-add-mod, div-add-mod', div-div-eq-div-mul}
 use native.Mathlib.Omega.{arith}
 use lib.Dec.{T, ltb, eqb, ltb→lt}
@@ -13,7 +13,8 @@ use Rattle.word.specs.declared.step.Step.{Step}
 use Rattle.word.specs.declared.step.Step.the-variants.{Const, Xor, And, Not, Shl, Shr, Spread, Add, Rand}
 use Rattle.word.specs.declared.step.Decoded.{Decoded}
 use Rattle.word.specs.declared.step.Decoded.the-variants.{Good, Bad}
-use Rattle.word.specs.Encoding.{kindOf, bit27, fieldD, fieldA, fieldB, either, row, named, kindNumber, within, inPlan, inProgram, held, taken, put, wordOf}
+use Rattle.word.specs.Encoding.{kindOf, bit27, fieldD, fieldA, fieldB, either, row, named, kindNumber, within, inPlan, inProgram, held, taken, planStep, put, wordOf}
+use Rattle.word.specs.Table.{dest}
 use Rattle.word.proofs.Ranges.{both, within-cells, within-number, within-more}
 use Rattle.word.specs.Parts.{OfParts, OfNone, Exact, WordsExact}
 
@@ -208,6 +209,42 @@ taken-rule rule w s = by (named w)
     by : (d : Decoded) → held rule d ≡ Good s → T (rule s)
     by (Good t) = pick (rule t) (Good t) Bad s (λ r e. rw (← (same-step t s e), r) tt) (never s)
     by Bad = never s
+
+-- the cell that a step sets is the word's field d
+row-dest : (k d a b : ℕ) (s : Step) → row k d a b ≡ Good s → dest s ≡ d
+unfolding row
+row-dest k d a b s =
+    pick (eqb k 1) _ _ s (λ t. is (Const d (512 * a + b)) refl)
+    (pick (eqb k 2) _ _ s (λ t. is (Xor d a b) refl)
+    (pick (eqb k 3) _ _ s (λ t. is (And d a b) refl)
+    (pick (eqb k 4) _ _ s (λ t. pick (eqb b 0) _ _ s (λ z. is (Not d a) refl) (never s))
+    (pick (eqb k 5) _ _ s (λ t. is (Shl d a b) refl)
+    (pick (eqb k 6) _ _ s (λ t. is (Shr d a b) refl)
+    (pick (eqb k 7) _ _ s (λ t. pick (eqb b 0) _ _ s (λ z. is (Spread d a) refl) (never s))
+    (pick (eqb k 8) _ _ s (λ t. is (Add d a b) refl)
+    (pick (eqb k 9) _ _ s (λ t. pick (eqb a 0) _ _ s (λ y. pick (eqb b 0) _ _ s (λ z. is (Rand d) refl) (never s)) (never s))
+    (never s)))))))))
+  where
+    is : (x : Step) → dest x ≡ d → Good x ≡ Good s → dest s ≡ d
+    is x h e = ap dest (sym (same-step x s e)) ∙ h
+
+pub named-dest : (w : ℕ) (s : Step) → named w ≡ Good s → dest s ≡ fieldD w
+unfolding named
+named-dest w s = pick (eqb (bit27 w) 0) _ _ s (λ t. row-dest (kindOf w) (fieldD w) (fieldA w) (fieldB w) s) (never s)
+
+-- so a plan's word is bad where its field d is no register
+pub no-register : (w : ℕ) → 32 ≤ fieldD w → planStep w ≡ Bad
+no-register w h = by (named w) (named-dest w)
+  where
+    by : (d : Decoded) → ((s : Step) → d ≡ Good s → dest s ≡ fieldD w) → held inPlan d ≡ Bad
+    by (Good s) f = test (inPlan s) refl
+      where
+        test : (b : Bool) → inPlan s ≡ b → either b (Good s) Bad ≡ Bad
+        test true r =
+            let l = within-cells 32 s (both (not (eqb (kindNumber s) 9)) (within 32 s) (rw r tt) .1) .0 in
+            absurd (omega (arith, f s refl))
+        test false r = refl
+    by Bad f = refl
 
 pub words-exact : WordsExact
 words-exact = record { plans = plan-exact; programs = program-exact }

@@ -79,11 +79,6 @@ inPlan s = not (eqb (kindNumber s) 9) && within 32 s
 abbrev pub inProgram : Step → Bool
 inProgram s = not (eqb (kindNumber s) 8) && within 512 s
 
--- the rule of share programs (true) or of plans (false)
-abbrev pub ruleFor : Bool → Step → Bool
-ruleFor true = inProgram
-ruleFor false = inPlan
-
 -- "A word outside these rules is bad. Taking a word apart gives either its kind with its fields or the finding that it is bad"
 abbrev pub held : (Step → Bool) → Decoded → Decoded
 held rule (Good s) = either (rule s) (Good s) Bad

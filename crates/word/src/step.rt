@@ -1,14 +1,15 @@
-// Decoded steps: the kind of a step word with its fields. Cells have nine bits, a constant eighteen.
+// Decoded steps: the kind of a step word with its fields. Cells have nine bits, a constant eighteen. A cell is a `usize`, as it indexes; in
+// narrower types the compiler packs a step into one machine word and takes it apart again.
 pub enum Step {
-    Const { d: u16, k: u32 },
-    Xor { d: u16, a: u16, b: u16 },
-    And { d: u16, a: u16, b: u16 },
-    Not { d: u16, a: u16 },
-    Shl { d: u16, a: u16, b: u16 },
-    Shr { d: u16, a: u16, b: u16 },
-    Spread { d: u16, a: u16 },
-    Add { d: u16, a: u16, b: u16 },
-    Rand { d: u16 },
+    Const { d: usize, k: u32 },
+    Xor { d: usize, a: usize, b: usize },
+    And { d: usize, a: usize, b: usize },
+    Not { d: usize, a: usize },
+    Shl { d: usize, a: usize, b: u32 },
+    Shr { d: usize, a: usize, b: u32 },
+    Spread { d: usize, a: usize },
+    Add { d: usize, a: usize, b: usize },
+    Rand { d: usize },
 }
 
 // What taking a word apart gives: its step, or the finding that the word is bad.

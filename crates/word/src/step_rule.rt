@@ -1,14 +1,17 @@
 // The rows of the table of kinds, and the two rules that say which steps a plan and a share program have.
 ghost use mathlib.Core.Path.{_≡_};
 ghost use mathlib.Core.Bool.{_&&_};
+ghost use Prim.Native.Nat.{_<_};
 ghost use lib.Dec.{ltb};
 ghost use Rattle.word.specs.Encoding as spec;
+ghost use Rattle.word.specs.Table.{dest};
 use crate::step::Decoded;
 use crate::step::Step;
 use crate::step_word::StepWord;
 
 // What kind `k` with fields d, a and b means.
-pub fn row(k: u32, d: u16, a: u16, b: u16) -> Decoded
+pub fn row(k: u32, d: usize, a: usize, b: usize) -> Decoded
+    requires { ⌜ (a < 512) × (b < 512) ⌝ }
     ensures { λ r. ⌜ r ≡ spec.row k d a b ⌝ }
 {
     match k {
@@ -23,8 +26,8 @@ pub fn row(k: u32, d: u16, a: u16, b: u16) -> Decoded
         } else {
             Decoded::Bad
         },
-        StepWord::SHL => Decoded::Good(Step::Shl { d, a, b }),
-        StepWord::SHR => Decoded::Good(Step::Shr { d, a, b }),
+        StepWord::SHL => Decoded::Good(Step::Shl { d, a, b: b as u32 }),
+        StepWord::SHR => Decoded::Good(Step::Shr { d, a, b: b as u32 }),
         StepWord::SPREAD => if b == 0 {
             Decoded::Good(Step::Spread { d, a })
         } else {
@@ -45,21 +48,14 @@ pub fn row(k: u32, d: u16, a: u16, b: u16) -> Decoded
 }
 
 // Whether a cell is below the limit and the rest holds too.
-fn below(x: u16, limit: u16, rest: bool) -> bool
+fn below(x: usize, limit: usize, rest: bool) -> bool
     ensures { λ r. ⌜ r ≡ (ltb x limit && rest) ⌝ }
 {
     if x < limit { rest } else { false }
 }
 
-// The step word's limits, at the width of its fields.
-const REGISTERS: u16 = StepWord::REGISTERS as u16;
-
-const CELLS: u16 = StepWord::CELLS as u16;
-
-const SHIFTS: u16 = StepWord::SHIFTS as u16;
-
 // Whether all cells are below `cells`, the shift below 64 and the constant of 18 bits.
-pub fn within(cells: u16, s: Step) -> bool
+pub fn within(cells: usize, s: Step) -> bool
     ensures { λ r. ⌜ r ≡ spec.within cells s ⌝ }
 {
     match s {
@@ -67,26 +63,11 @@ pub fn within(cells: u16, s: Step) -> bool
         Step::Xor { d, a, b } => below(d, cells, below(a, cells, b < cells)),
         Step::And { d, a, b } => below(d, cells, below(a, cells, b < cells)),
         Step::Not { d, a } => below(d, cells, a < cells),
-        Step::Shl { d, a, b } => below(d, cells, below(a, cells, b < SHIFTS)),
-        Step::Shr { d, a, b } => below(d, cells, below(a, cells, b < SHIFTS)),
+        Step::Shl { d, a, b } => below(d, cells, below(a, cells, b < StepWord::SHIFTS)),
+        Step::Shr { d, a, b } => below(d, cells, below(a, cells, b < StepWord::SHIFTS)),
         Step::Spread { d, a } => below(d, cells, a < cells),
         Step::Add { d, a, b } => below(d, cells, below(a, cells, b < cells)),
         Step::Rand { d } => d < cells,
-    }
-}
-
-// Whether two fields are registers and the rest holds too.
-pub fn registers(d: u32, a: u32, rest: bool) -> bool
-    ensures { λ r. ⌜ r ≡ (ltb d 32 && (ltb a 32 && rest)) ⌝ }
-{
-    if d < StepWord::PLAN_CELLS {
-        if a < StepWord::PLAN_CELLS {
-            rest
-        } else {
-            false
-        }
-    } else {
-        false
     }
 }
 
@@ -117,14 +98,21 @@ pub fn kind_number(s: Step) -> u32
     }
 }
 
-// A plan's steps: kinds 1..8, registers.
+// A plan's steps: kinds 1..8, registers. Asked of a step whose d is a register, which its word's field tells before its kind is looked at.
 pub fn in_plan(s: Step) -> bool
+    requires { ⌜ dest s < 32 ⌝ }
     ensures { λ r. ⌜ r ≡ spec.inPlan s ⌝ }
 {
-    if kind_number(s) == StepWord::RAND {
-        false
-    } else {
-        within(REGISTERS, s)
+    match s {
+        Step::Const { d: _, k } => k < StepWord::NUMBERS,
+        Step::Xor { d: _, a, b } => below(a, StepWord::REGISTERS, b < StepWord::REGISTERS),
+        Step::And { d: _, a, b } => below(a, StepWord::REGISTERS, b < StepWord::REGISTERS),
+        Step::Not { d: _, a } => a < StepWord::REGISTERS,
+        Step::Shl { d: _, a, b } => below(a, StepWord::REGISTERS, b < StepWord::SHIFTS),
+        Step::Shr { d: _, a, b } => below(a, StepWord::REGISTERS, b < StepWord::SHIFTS),
+        Step::Spread { d: _, a } => a < StepWord::REGISTERS,
+        Step::Add { d: _, a, b } => below(a, StepWord::REGISTERS, b < StepWord::REGISTERS),
+        Step::Rand { d: _ } => false,
     }
 }
 
@@ -135,13 +123,6 @@ pub fn in_program(s: Step) -> bool
     if kind_number(s) == StepWord::ADD {
         false
     } else {
-        within(CELLS, s)
+        within(StepWord::CELLS, s)
     }
-}
-
-// The rule of share programs or of plans.
-pub fn allowed(s: Step, program: bool) -> bool
-    ensures { λ r. ⌜ r ≡ spec.ruleFor program s ⌝ }
-{
-    if program { in_program(s) } else { in_plan(s) }
 }

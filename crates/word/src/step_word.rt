@@ -1,11 +1,11 @@
 // The step word's own type: its bit places, the cells and limits that go with it, and taking it apart.
 ghost use mathlib.Core.Path.{_≡_};
 ghost use Rattle.word.specs.Encoding as spec;
-ghost use Rattle.word.specs.Encoding.{kindOf, bit27, fieldD, fieldA, fieldB, isGood, planStep, ruleFor, programStep};
+ghost use Rattle.word.specs.Encoding.{kindOf, bit27, fieldD, fieldA, fieldB, planStep, programStep};
 ghost use Rattle.word.specs.Layout as layout;
 use crate::step::Decoded;
-use crate::step_rule::allowed;
-use crate::step_rule::registers;
+use crate::step_rule::in_plan;
+use crate::step_rule::in_program;
 use crate::step_rule::row;
 
 pub struct StepWord {
@@ -104,22 +104,22 @@ impl StepWord {
         (self.bits >> StepWord::ZERO_AT) % 2
     }
 
-    pub fn d(self) -> u16
+    pub fn d(self) -> usize
         ensures { λ r. ⌜ r ≡ fieldD (self .bits) ⌝ }
     {
-        ((self.bits >> StepWord::D_AT) % StepWord::FIELD) as u16
+        ((self.bits >> StepWord::D_AT) % StepWord::FIELD) as usize
     }
 
-    pub fn a(self) -> u16
+    pub fn a(self) -> usize
         ensures { λ r. ⌜ r ≡ fieldA (self .bits) ⌝ }
     {
-        ((self.bits >> StepWord::A_AT) % StepWord::FIELD) as u16
+        ((self.bits >> StepWord::A_AT) % StepWord::FIELD) as usize
     }
 
-    pub fn b(self) -> u16
+    pub fn b(self) -> usize
         ensures { λ r. ⌜ r ≡ fieldB (self .bits) ⌝ }
     {
-        (self.bits % StepWord::FIELD) as u16
+        (self.bits % StepWord::FIELD) as usize
     }
 
     // The step that the fields name, before its ranges are looked at, or Bad where bit 27 or a field that must be 0 is set.
@@ -133,78 +133,34 @@ impl StepWord {
         }
     }
 
-    // The step of a word of a share program or of a plan, or Bad.
-    pub fn step_in(self, program: bool) -> Decoded
-        ensures { λ r. ⌜ r ≡ spec.taken (ruleFor program) (self .bits) ⌝ }
+    // The step of a plan's word, or Bad. Every kind has a cell d, so a d that is no register is enough for Bad.
+    pub fn plan_step(self) -> Decoded
+        ensures { λ r. ⌜ r ≡ planStep (self .bits) ⌝ }
     {
+        if StepWord::REGISTERS <= self.d() {
+            return Decoded::Bad;
+        }
         let Decoded::Good(step) = self.named() else {
             return Decoded::Bad;
         };
-        if allowed(step, program) {
+        if in_plan(step) {
             Decoded::Good(step)
         } else {
             Decoded::Bad
         }
     }
 
-    // The step of a plan's word, or Bad.
-    pub fn plan_step(self) -> Decoded
-        ensures { λ r. ⌜ r ≡ planStep (self .bits) ⌝ }
-    {
-        self.step_in(false)
-    }
-
     // The step of a share program's word, or Bad.
     pub fn program_step(self) -> Decoded
         ensures { λ r. ⌜ r ≡ programStep (self .bits) ⌝ }
     {
-        self.step_in(true)
-    }
-
-    // Whether a share program's word is good, by its kind and fields alone: what checking a whole program asks.
-    pub fn is_program_word(self) -> bool
-        ensures { λ r. ⌜ r ≡ isGood (programStep (self .bits)) ⌝ }
-    {
-        let w = self.bits;
-        if (w >> StepWord::ZERO_AT) % 2 != 0 {
-            return false;
-        }
-        let kind = w >> StepWord::KIND_AT;
-        match kind {
-            StepWord::CONST => true,
-            StepWord::XOR => true,
-            StepWord::AND => true,
-            StepWord::NOT => w % StepWord::FIELD == 0,
-            StepWord::SHL => w % StepWord::FIELD < StepWord::SHIFTS,
-            StepWord::SHR => w % StepWord::FIELD < StepWord::SHIFTS,
-            StepWord::SPREAD => w % StepWord::FIELD == 0,
-            StepWord::RAND => w % StepWord::NUMBERS == 0,
-            _ => false,
-        }
-    }
-
-    // Whether a plan's word is good, likewise.
-    pub fn is_plan_word(self) -> bool
-        ensures { λ r. ⌜ r ≡ isGood (planStep (self .bits)) ⌝ }
-    {
-        let w = self.bits;
-        if (w >> StepWord::ZERO_AT) % 2 != 0 {
-            return false;
-        }
-        let d = (w >> StepWord::D_AT) % StepWord::FIELD;
-        let a = (w >> StepWord::A_AT) % StepWord::FIELD;
-        let b = w % StepWord::FIELD;
-        let kind = w >> StepWord::KIND_AT;
-        match kind {
-            StepWord::CONST => d < StepWord::PLAN_CELLS,
-            StepWord::XOR => registers(d, a, b < StepWord::PLAN_CELLS),
-            StepWord::AND => registers(d, a, b < StepWord::PLAN_CELLS),
-            StepWord::NOT => registers(d, a, b == 0),
-            StepWord::SHL => registers(d, a, b < StepWord::SHIFTS),
-            StepWord::SHR => registers(d, a, b < StepWord::SHIFTS),
-            StepWord::SPREAD => registers(d, a, b == 0),
-            StepWord::ADD => registers(d, a, b < StepWord::PLAN_CELLS),
-            _ => false,
+        let Decoded::Good(step) = self.named() else {
+            return Decoded::Bad;
+        };
+        if in_program(step) {
+            Decoded::Good(step)
+        } else {
+            Decoded::Bad
         }
     }
 

@@ -4,11 +4,10 @@ use mathlib.Core.Path.{_≡_, sym, ap, _∙_}
 use native.Mathlib.Nat.{zero-add}
 use native.Mathlib.Omega.{arith}
 use lib.ListN.{length, getD}
-use borrow.Author.Tests.{not-true, not-false}
 use borrow.Author.Needs.{needs}
 use denote.Ref.{now}
-use Rattle.word.specs.Encoding.{planStep, isGood}
-use Rattle.checks.proofs.Checking.{Passed, says, asked-one, asked-bad, at-end}
+use Rattle.word.specs.Encoding.{planStep}
+use Rattle.checks.proofs.Checking.{Passed, says, passed-one, at-bad, at-end}
 use Rattle.checks.proofs.plan.plan_first_bad.Statement.{statement}
 use Rattle.checks.proofs.plan.plan_first_bad.Tie as tie
 
@@ -21,30 +20,30 @@ abbrev μ-loop : tie.MeasureT-loop
 loop-holds : tie.Need-loop-holds Inv-loop μ-loop
 loop-holds c = sym (zero-add _)
 
--- where a word was read and tested: its place is before the end, and it is the word there that was tested
-turn : (c : tie.After-is-plan-word Inv-loop μ-loop) →
+-- where a word was read and taken apart: its place is before the end, and it is the word there that was taken apart
+turn : (c : tie.After-plan-step Inv-loop μ-loop) →
     let start = c .before .before .before .before .before .before .before .before in
     let i = c .before .before .before .before .before .before .loop .i in
-    (i < length (now (start .args .plan))) × (isGood (planStep (getD (now (start .args .plan)) i 0)) ≡ c .is-plan-word .result)
+    (i < length (now (start .args .plan))) × (planStep (getD (now (start .args .plan)) i 0) ≡ c .plan-step .result)
 turn c =
     let start = c .before .before .before .before .before .before .before .before in
     let read = says (now (start .args .plan)) (c .before .before .before .before .before .before .loop .i) _ (sym (c .before .before .before .before .before .word-at .ensures) ∙ c .before .before .before .w .given .1) in
-    (read .0, ap (λ (w : ℕ). isGood (planStep w)) (read .1 ∙ sym (c .before .of .ensures)) ∙ sym (c .is-plan-word .ensures))
+    (read .0, ap planStep (read .1 ∙ sym (c .before .of .ensures)) ∙ sym (c .plan-step .ensures))
 
 add-i : tie.Need-add-i Inv-loop μ-loop
-add-i c = omega (arith, turn (c .before) .0, c .before .before .before .before .before .before .before .before .before .good .0 .0)
+add-i c = omega (arith, turn (c .before .before) .0, c .before .before .before .before .before .before .before .before .before .before .good .0 .0)
 
 loop-less : tie.Need-loop-less Inv-loop μ-loop
-loop-less c = omega (arith, turn (c .before) .0)
+loop-less c = omega (arith, turn (c .before .before) .0)
 
 loop-again : tie.Need-loop-again Inv-loop μ-loop
-loop-again c = asked-one planStep _ _ (c .before .before .before .before .before .before .before .loop .inv) (turn (c .before) .0) (turn (c .before) .1 ∙ not-false _ (c .if1 .left))
+loop-again c = passed-one planStep _ _ (c .before .before .before .before .before .before .before .before .loop .inv) (turn (c .before .before) .0) (turn (c .before .before) .1 ∙ c .enum-told2 .given .1)
 
 returns : tie.Need-returns Inv-loop μ-loop
 returns c = at-end planStep _ _ (c .before .before .before .loop .inv) (says (now (c .before .before .before .before .before .args .plan)) (c .before .before .before .loop .i) _ (sym (c .before .before .word-at .ensures) ∙ c .enum-told .given .1))
 
 returns-2 : tie.Need-returns-2 Inv-loop μ-loop
-returns-2 c = asked-bad planStep _ _ (c .before .before .before .before .before .before .before .loop .inv) (turn (c .before) .0) (turn (c .before) .1 ∙ not-true _ (c .if1 .taken))
+returns-2 c = at-bad planStep _ _ (c .before .before .before .before .before .before .before .before .loop .inv) (turn (c .before .before) .0) (turn (c .before .before) .1 ∙ c .enum-told3 .given .1)
 
 pub plan-first-bad-spec : {M : Type 1} → statement M
 plan-first-bad-spec =
@@ -58,6 +57,8 @@ plan-first-bad-spec =
     (λ c. search needs)
     (λ c κs. search needs)
     (λ c κs. search needs)
+    (λ c. search needs)
+    (λ c. search needs)
     add-i
     loop-less
     loop-again

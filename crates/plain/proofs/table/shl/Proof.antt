@@ -21,6 +21,5 @@ returns-2 c =
 pub shl-spec : {M : Type 1} → statement M
 shl-spec = tie.close (tie.spec
     (λ c. search needs)
-    (λ c. search needs)
     returns
     returns-2)

@@ -17,6 +17,5 @@ returns-2 c = sym (shr-width _ _ (omega arith) (c .if1 .left))
 pub shr-spec : {M : Type 1} → statement M
 shr-spec = tie.close (tie.spec
     (λ c. search needs)
-    (λ c. search needs)
     returns
     returns-2)

@@ -1,16 +1,14 @@
 -- `running::exec::exec` meets its contract.
 use mathlib.Core.Path.{_≡_, refl, sym, ap, ap₂, _∙_}
-use mathlib.Core.Logic.{⊎-elim}
-use mathlib.Core.List.{List}
+use mathlib.Core.List.{List, [], _∷_}
 use denote.Ref.{now}
 use Prim.Native.Nat.{ℕ, _+_, _-_, _≤_}
 use native.Mathlib.Nat.{zero-add}
 use native.Mathlib.Omega.{arith}
-use lib.ListN.{length, getD, drop, drop-of-length-le, length-set}
+use lib.ListN.{length, getD, drop, drop-of-length-le}
 use borrow.Author.Needs.{needs}
 use Rattle.masking.specs.Machine.{exec, rands}
-use Rattle.running.proofs.Turns.{rands-turn}
-use Rattle.running.proofs.ByKind.{takes-rand, takes-none, rand-turn, other-turn}
+use Rattle.running.proofs.Turns.{rands-turn, exec-turn}
 use Rattle.running.proofs.exec.exec.Statement.{statement}
 use Rattle.running.proofs.exec.exec.Tie as tie
 
@@ -28,44 +26,27 @@ abbrev μ-loop : tie.MeasureT-loop
 loop-holds : tie.Need-loop-holds Inv-loop μ-loop
 loop-holds c = (omega arith, refl, refl, zero-add _, refl)
 
-shared-slice-read-cells : tie.Need-shared-slice-read-cells Inv-loop μ-loop
-shared-slice-read-cells c =
-    let words = now (c .before .before .before .before .before .before .before .before .args .words) in
-    let i = c .before .before .before .before .loop .i in
-    let turn = rands-turn words i (omega arith) in
-    omega (arith, takes-rand (getD words i 0) (c .before .before .before .before .before .before .before .before .pre .1 .1 i (omega arith)) (c .before .if1 .taken), c .before .before .before .before .before .before .before .before .pre .0)
-
-value-requires : tie.Need-value-requires Inv-loop μ-loop
-value-requires c κs =
-    let l = c .before .before .before .before .loop in
-    (l .inv .2 ∙ c .before .before .before .before .before .before .before .before .pre .1 .0, (refl, (c .before .before .before .before .before .before .before .before .pre .1 .1 (l .i) (omega arith), c .before .if1 .left)))
+word-done-requires : tie.Need-word-done-requires Inv-loop μ-loop
+word-done-requires c κs =
+    let start = c .before .before .before .before .before .before .before in
+    let l = c .before .before .before .loop in
+    let turn = rands-turn (now (start .args .words)) (l .i) (omega arith) in
+    (omega (arith, turn, start .pre .0), l .inv .2 ∙ start .pre .1)
 
 loop-again : tie.Need-loop-again Inv-loop μ-loop
 loop-again c =
-    let a = c .before .before .before .before .before .before .before .args in
+    let a = c .before .before .before .before .before .before .before .before .before .before .args in
     let words = now (a .words) in
-    let l = c .before .before .before .loop in
-    let w = getD words (l .i) 0 in
-    let g = c .before .before .before .before .before .before .before .pre .1 .1 (l .i) (omega arith) in
-    let turn = rands-turn words (l .i) (omega arith) in
-    ⊎-elim
-    (λ h. (
+    let l = c .before .before .before .before .before .before .loop in
+    let d = c .before .before .word-done in
+    let turn = rands-turn words (l .i) (omega arith) in (
       omega arith,
       refl,
-      ap length (h .2) ∙ length-set (l .cells) _ _ ∙ l .inv .2,
-      omega (arith, takes-rand w g (h .0 .taken), h .3),
-      l .inv .4 ∙ rand-turn words (l .i) (omega arith) g (now (a .tape)) (l .cells) (l .t) (h .0 .taken)
-          ∙ ap₂ (λ (k : ℕ) (r : List ℕ). exec (drop (l .i + 1) words) (drop k (now (a .tape))) r) (sym (h .3)) (sym (h .2)),
-    ))
-    (λ h. (
-      omega arith,
-      refl,
-      ap length (h .3) ∙ length-set (l .cells) _ _ ∙ l .inv .2,
-      omega (arith, takes-none w g (h .0 .left), h .4),
-      l .inv .4 ∙ other-turn words (l .i) (omega arith) g (now (a .tape)) (l .cells) (l .t) (h .0 .left)
-          ∙ ap₂ (λ (k : ℕ) (r : List ℕ). exec (drop (l .i + 1) words) (drop k (now (a .tape))) r) (sym (h .4)) (sym (h .2 .ensures) ∙ sym (h .3)),
-    ))
-    (c .if1 .came)
+      d .kept .1 .1 .1 .0 ∙ l .inv .2,
+      omega (arith, turn, d .ensures .0),
+      l .inv .4 ∙ exec-turn words (l .i) (omega arith) (now (a .tape)) (l .cells) (l .t)
+          ∙ ap₂ (λ (k : ℕ) (r : List ℕ). exec (drop (l .i + 1) words) (drop k (now (a .tape))) r) (sym (d .ensures .0)) (sym (d .ensures .1)),
+    )
 
 same-length : tie.Need-same-length Inv-loop μ-loop
 same-length c = c .before .loop .inv .2
@@ -85,15 +66,7 @@ exec-spec =
     loop-holds
     (λ c. search needs)
     (λ c. search needs)
-    (λ c. search needs)
-    (λ c. search needs)
-    shared-slice-read-cells
-    (λ c. search needs)
-    (λ c. search needs)
-    (λ c. search needs)
-    value-requires
-    (λ c. search needs)
-    (λ c. search needs)
+    word-done-requires
     (λ c. search needs)
     (λ c. search needs)
     loop-again

@@ -7,7 +7,6 @@ use lib.ListN.{take, drop, length-drop}
 use borrow.Author.Tests.{eq-eqb, ne-eqb}
 use Rattle.masking.specs.Runs.{due, standing}
 use Rattle.masking.proofs.Demand3.{demand3}
-use Rattle.running.proofs.ByKind.{all-good, part-good}
 use Rattle.running.proofs.Done.{ready}
 use Rattle.running.proofs.Turns.{due-part, rest-part}
 use borrow.Author.Needs.{needs}
@@ -57,7 +56,7 @@ exec-requires c κs =
     let P = now (a .program) in
     let e : take (a .place + c .before .before .before .before .before .before .run-answer .result .words - a .place) (drop (a .place) P) ≡ due P (a .place) (a .budget) =
     ap (λ (k : ℕ). take (a .place + k - a .place) (drop (a .place) P)) (r .words) ∙ due-part P (a .place) (a .budget) in
-    (rw (e, rest-part (now (a .tape)) (a .tape-place), length-drop) (r .enough), (r .size, part-good P (a .place) (a .place + c .before .before .before .before .before .before .run-answer .result .words - a .place) (all-good P (r .good))))
+    (rw (e, rest-part (now (a .tape)) (a .tape-place), length-drop) (r .enough), r .size)
 
 returns : tie.Need-returns
 returns c =

@@ -7,7 +7,7 @@ use denote.Ref.{now}
 use borrow.Author.Needs.{needs}
 use Rattle.word.specs.Encoding.{planStep}
 use Rattle.masking.specs.Translation.{wordsFor}
-use Rattle.translation.proofs.Program.{Going, going, word-good, next-fits, going-on, gone}
+use Rattle.translation.proofs.Program.{Going, going, next-fits, going-on, gone}
 use Rattle.checks.proofs.Slices.{part-is, part-back}
 use Rattle.translation.proofs.translate.translate_words.Statement.{statement}
 use Rattle.translation.proofs.translate.translate_words.Tie as tie
@@ -60,7 +60,7 @@ plan-word-requires c κs =
     let i = c .before .before .before .loop .i in
     let g = c .before .before .before .loop .inv .2 in
     let r = next-fits n plan (c .before .before .before .before .before .before .pre .0) _ out at i g (omega arith) (c .before .before .before .before .before .before .pre .1) in
-    (word-good n plan (c .before .before .before .before .before .before .pre .0) i (omega arith), ((omega (arith, c .before .before .before .before .before .before .pre .0 .least), c .before .before .before .before .before .before .pre .0 .most), omega (arith, ap length (part-is at out (omega arith)), length-drop at out)))
+    ((omega (arith, c .before .before .before .before .before .before .pre .0 .least), c .before .before .before .before .before .before .pre .0 .most), omega (arith, ap length (part-is at out (omega arith)), length-drop at out))
 
 add-at : tie.Need-add-at Inv-loop μ-loop
 add-at c =

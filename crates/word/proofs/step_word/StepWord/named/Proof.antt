@@ -1,10 +1,14 @@
 -- `word::step_word::StepWord::named` meets its contract.
 use borrow.Author.Tests.{ne-eqb}
 use mathlib.Core.Path.{_≡_, sym, _∙_}
+use native.Mathlib.Omega.{arith}
 use Rattle.word.specs.Encoding.{named, bit27}
 use borrow.Author.Needs.{needs}
 use Rattle.word.proofs.step_word.StepWord.named.Statement.{statement}
 use Rattle.word.proofs.step_word.StepWord.named.Tie as tie
+
+row-requires : tie.Need-row-requires
+row-requires c κs = (omega (arith, c .before .a .ensures), omega (arith, c .b .ensures))
 
 returns : tie.Need-returns
 unfolding named
@@ -26,6 +30,6 @@ named-spec =
     (λ c κs. search needs)
     (λ c κs. search needs)
     (λ c κs. search needs)
-    (λ c κs. search needs)
+    row-requires
     returns
     returns-2)
