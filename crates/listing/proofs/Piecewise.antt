@@ -3,7 +3,7 @@
 use mathlib.Core.Path.{_≡_, refl, sym, ap, ap₂, _∙_}
 use mathlib.Core.Bool.{Bool, true, false, cond}
 use mathlib.Core.List.{List, [], _∷_, _++_, append-assoc}
-use Prim.Native.Nat.{ℕ, zero, suc, _+_, _-_, _≤_, _<_}
+use Prim.Native.Nat.{ℕ, zero, suc, _+_, _-_, _*_, _≤_, _<_}
 use native.Mathlib.Numerals.{add-one}
 use native.Mathlib.Omega.{arith}
 use lib.Dec.{leb, eqb}
@@ -21,6 +21,7 @@ use Rattle.listing.specs.Pieces.{ListsPart, ListsPiece, wordLines, lines
 use Rattle.text.proofs.Placed.{fits}
 use Rattle.text.proofs.Decimal.{decimal-most}
 use Rattle.listing.proofs.Answered.{taken}
+use Rattle.listing.proofs.PlanWord.{lines-most}
 use Rattle.listing.proofs.Parts.{fit-some, fitted-most}
 
 -- ---- by the answer's cases
@@ -113,41 +114,67 @@ goes-on {input} {from} {out} p e r =
     let m = piece-moves (length out) r input from (sym (p .ends) ∙ e) in
     omega (arith, p .moved, m .0, m .1)
 
--- ---- pieces in turn
+-- ---- what is still to be listed
 
 lines-append : (n : ℕ) (xs ys : List ℕ) → linesOf n (xs ++ ys) ≡ linesOf n xs ++ linesOf n ys
 lines-append n [] ys = refl
 lines-append n (x ∷ xs) ys = ap (λ (l : List ℕ). wordLines n x ++ l) (lines-append n xs ys) ∙ sym (append-assoc (wordLines n x) (linesOf n xs) (linesOf n ys))
 
-module _ (room : ℕ) (r : wordBytes ≤ room) (input : List ℕ) where
-  abbrev linesFrom : ℕ → List ℕ
-  linesFrom k = linesOf (countOf input) (drop k (listedWords input))
+-- from piece 0 on all, and from piece k + 1 on the lines of the words from k on
+abbrev pub restFrom : List ℕ → ℕ → List ℕ
+restFrom input zero = headOf input ++ linesOf (countOf input) (listedWords input)
+restFrom input (suc k) = linesOf (countOf input) (drop k (listedWords input))
 
-  -- what `turns` pieces list from each word on, they list behind a piece
-  behind : (turns : ℕ) → ((k : ℕ) → length (listedWords input) ≤ k + turns → piecesFrom turns room input (suc k) ≡ linesFrom k)
-      → (from : ℕ) → length (listedWords input) ≤ from + turns
-      → piecesFrom (suc turns) room input from ≡ pieceText room input from ++ linesFrom (wordsListed room input from)
-  behind turns on from l = ap₂ (λ (x y : List ℕ). x ++ y) (fits (pieceText room input from) (piece-most room r input from)) (by (pieceLast room input from) refl)
-    where
-      by : (b : Bool) → pieceLast room input from ≡ b
-          → cond b [] (piecesFrom turns room input (pieceNext room input from)) ≡ linesFrom (wordsListed room input from)
-      by true e = sym (ap (linesOf (countOf input)) (drop-of-length-le (listedWords input) (leb-true _ _ e)))
-      by false e = on (wordsListed room input from) (omega (arith, piece-moves room r input from e .0))
+lines-most-of : (n : ℕ) (ws : List ℕ) → length (linesOf n ws) ≤ wordBytes * length ws
+lines-most-of n [] = omega arith
+lines-most-of n (w ∷ ws) = omega (arith, lines-most n w, length-append (wordLines n w) (linesOf n ws), lines-most-of n ws)
 
-  -- pieces list the words from each word on
-  lines-on : (turns k : ℕ) → length (listedWords input) ≤ k + turns → piecesFrom turns room input (suc k) ≡ linesFrom k
+pub rest-most : (input : List ℕ) → length (restFrom input 0) ≤ 96 + wordBytes * 2048
+rest-most input =
+    omega (
+      arith,
+      head-most input,
+      length-append (headOf input) (linesOf (countOf input) (listedWords input)),
+      lines-most-of (countOf input) (listedWords input),
+      listed-most input,
+    )
+
+module _ (room : ℕ) (input : List ℕ) where
+  -- it begins with the piece, and goes on with what the next one begins
+  pub rest-on : (from : ℕ) → restFrom input from ≡ pieceText room input from ++ restFrom input (pieceNext room input from)
   unfolding pieceText wordsListed
-  lines-on zero k l = sym (ap (linesOf (countOf input)) (drop-of-length-le (listedWords input) {i = k} (omega arith)))
-  lines-on (suc turns) k l =
+  rest-on zero = refl
+  rest-on (suc k) =
       let n = countOf input in
       let ws = drop k (listedWords input) in
       let f = pieceCount room input k in
-      behind turns (lines-on turns) (suc k) (omega arith)
-      ∙ ap (λ (x : List ℕ). linesOf n (take f ws) ++ linesOf n x) (sym (drop-drop f k (listedWords input)))
-      ∙ sym (lines-append n (take f ws) (drop f ws))
-      ∙ ap (linesOf n) (take-append-drop f ws)
+      sym (ap (linesOf n) (take-append-drop f ws)) ∙ lines-append n (take f ws) (drop f ws)
+      ∙ ap (λ (x : List ℕ). linesOf n (take f ws) ++ linesOf n x) (drop-drop f k (listedWords input))
+
+  -- behind the last piece is nothing
+  pub rest-none : (from : ℕ) → pieceLast room input from ≡ true → restFrom input (pieceNext room input from) ≡ []
+  rest-none from e = ap (linesOf (countOf input)) (drop-of-length-le (listedWords input) (leb-true _ _ e))
+
+-- ---- pieces in turn
+
+module _ (room : ℕ) (r : wordBytes ≤ room) (input : List ℕ) where
+  -- where `turns` pieces list what is left from each piece on, one more does
+  behind : (turns : ℕ) → ((from : ℕ) → length (listedWords input) < from + turns → piecesFrom turns room input from ≡ restFrom input from)
+      → (from : ℕ) → length (listedWords input) < from + suc turns → piecesFrom (suc turns) room input from ≡ restFrom input from
+  behind turns on from l =
+      ap₂ (λ (x y : List ℕ). x ++ y) (fits (pieceText room input from) (piece-most room r input from)) (by (pieceLast room input from) refl)
+      ∙ sym (rest-on room input from)
+    where
+      by : (b : Bool) → pieceLast room input from ≡ b
+          → cond b [] (piecesFrom turns room input (pieceNext room input from)) ≡ restFrom input (pieceNext room input from)
+      by true e = sym (rest-none room input from e)
+      by false e = on (pieceNext room input from) (omega (arith, piece-moves room r input from e .0))
+
+  in-turn : (turns from : ℕ) → length (listedWords input) < from + turns → piecesFrom turns room input from ≡ restFrom input from
+  in-turn zero zero l = absurd (omega arith)
+  in-turn zero (suc k) l = sym (ap (linesOf (countOf input)) (drop-of-length-le (listedWords input) {i = k} (omega arith)))
+  in-turn (suc turns) from l = behind turns (in-turn turns) from l
 
   -- the first line or the refusal, then the lines of all words
-  pub pieces-whole : piecesFrom (1 + planMax) room input 0 ≡ headOf input ++ linesOf (countOf input) (listedWords input)
-  unfolding pieceText wordsListed
-  pieces-whole = behind 2048 (lines-on 2048) 0 (omega (arith, listed-most input))
+  pub pieces-whole : piecesFrom (1 + planMax) room input 0 ≡ restFrom input 0
+  pieces-whole = in-turn 2049 0 (omega (arith, listed-most input))

@@ -18,11 +18,11 @@ use Rattle.translation.specs.Calls.{planFor, measured, measureAnswer}
 use Rattle.translation.proofs.Counted.{accepted}
 use Rattle.listing.specs.Sharelist.{listAnswer, countOf, planRead, listing}
 use Rattle.text.specs.Lines.{hexLines, firstLine, refusedLine}
-use Rattle.listing.specs.Pieces.{linesOf, listedWords, headOf, PiecesAreListing}
+use Rattle.listing.specs.Pieces.{linesOf, PiecesAreListing}
 use Rattle.text.proofs.Hex.{lines-append}
 use Rattle.listing.proofs.Answered.{taken}
 use Rattle.listing.proofs.PlanWord.{lines-of-good}
-use Rattle.listing.proofs.Piecewise.{listed-taken, listed-none, head-taken, head-refused, pieces-whole}
+use Rattle.listing.proofs.Piecewise.{listed-taken, listed-none, head-taken, head-refused, restFrom, pieces-whole}
 
 -- Measure takes each word of a plan that it takes
 word-taken : (n w : ℕ) → 2 ≤ n → n ≤ 8 → PlanWord w → measureAnswer n (w ∷ []) .number ≡ 0
@@ -44,12 +44,13 @@ module _ (n : ℕ) (l : 2 ≤ n) (m : n ≤ 8) where
 pub lines-whole : (n : ℕ) (plan : List ℕ) → Accepted n plan → hexLines (program n plan) ≡ linesOf n plan
 lines-whole n plan A = lines-good n (A .least) (A .most) plan (plan-words plan (A .good))
 
-pub pieces-are-listing : PiecesAreListing
+-- the listing is what is left from piece 0 on
+pub rest-is-listing : (input : List ℕ) → restFrom input 0 ≡ listing input
 unfolding listing
-pieces-are-listing room r input = pieces-whole room r input ∙ by (eqb (listAnswer input .number) 0) refl
+rest-is-listing input = by (eqb (listAnswer input .number) 0) refl
   where
     by : (b : Bool) → eqb (listAnswer input .number) 0 ≡ b
-        → headOf input ++ linesOf (countOf input) (listedWords input)
+        → restFrom input 0
         ≡ cond b (firstLine (countOf input) (listAnswer input .words) (listAnswer input .tape) ++ hexLines (program (countOf input) (planRead input))) (refusedLine (listAnswer input .number))
     by true e =
         let h = eqb-true (listAnswer input .number) 0 e in
@@ -59,3 +60,6 @@ pieces-are-listing room r input = pieces-whole room r input ∙ by (eqb (listAns
     by false e =
         let h = eqb-false (listAnswer input .number) 0 e in
         rw (head-refused input h, listed-none input h) (append-nil (refusedLine (listAnswer input .number)))
+
+pub pieces-are-listing : PiecesAreListing
+pieces-are-listing room r input = pieces-whole room r input ∙ rest-is-listing input

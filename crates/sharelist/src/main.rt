@@ -1,10 +1,12 @@
 // Reads a share count and a plan from standard input, and writes the plan's share program to standard output, one word a line, or the
 // number of the turn-down. A piece of some tens of kilobytes is held at a time, never the whole share program.
+ghost use mathlib.Core.Path.{_≡_};
 ghost use Prim.Native.Nat.{_<_};
 ghost use lib.ListN.{length};
 ghost use Rattle.io.specs.Counts.{Counts};
-ghost use Rattle.listing.specs.Sharelist.{inputMax};
-ghost use Rattle.sharelist.specs.Whole.{Whole};
+ghost use Rattle.listing.specs.Sharelist.{inputMax, listing};
+ghost use Rattle.sharelist.specs.HandedOn.{Follows, HandedOn, HandedAll, standardOutput};
+ghost use Rattle.sharelist.specs.Whole.{WasRead, Whole};
 use libc::STDERR_FILENO;
 use libc::STDIN_FILENO;
 use libc::STDOUT_FILENO;
@@ -14,73 +16,79 @@ use listing::pieces::list_piece;
 // One byte more than an input may have, so that a longer one is seen.
 const INPUT: usize = INPUT_MAX + 1;
 
-// Writes a text; says so where that fails.
-fn written(text: &[u8]) -> bool {
-    let all = io::write_all(STDOUT_FILENO, text);
-    if !all {
-        io::write_all(STDERR_FILENO, b"sharelist: cannot write\n");
+// Hands on, to standard output, bytes of an input's listing that follow the `sent` ones handed on before, and counts them; where that fails
+// it says so, and counts none.
+fn hand_on(fd: i32, input: &[u8], text: &[u8], sent: &mut usize) -> bool
+    requires { ⌜ fd ≡ standardOutput ⌝ }
+    requires { ⌜ Follows (listing (now input)) (now sent) (now text) ⌝ }
+    ensures { λ r. ⌜ HandedOn (now (sent .entry)) (now (text .entry)) r (now (sent .exit)) ⌝ }
+{
+    if io::write_all(fd, text) {
+        *sent = *sent + text.len();
+        return true;
     }
-    all
+    io::write_all(STDERR_FILENO, b"sharelist: cannot write\n");
+    false
 }
 
-// Writes the listing of an input, piece by piece.
-fn list(input: &[u8]) {
+// Hands on the listing of an input piece by piece, as long as that goes well; the answer is whether it did to the end. `last` is what the
+// last read of the input answered: only an input that was read to its end, or is too long, is listed.
+fn list(fd: i32, input: &[u8], last: isize, sent: &mut usize) -> bool
+    requires { ⌜ fd ≡ standardOutput ⌝ }
+    requires { ⌜ Whole (length (now input)) last ⌝ }
+    requires { ⌜ now sent ≡ 0 ⌝ }
+    ensures { λ r. ⌜ HandedAll (listing (now (input .entry))) r (now (sent .exit)) ⌝ }
+{
     let mut buffer = io::large_buffer();
     let mut at = 0;
     loop {
         let piece = list_piece(input, at, &mut buffer);
         let bytes = piece.bytes;
-        if !written(&buffer[..bytes]) {
-            return;
+        if !hand_on(fd, input, &buffer[..bytes], sent) {
+            return false;
         }
         if piece.last {
-            return;
+            return true;
         }
         at = piece.next;
     }
 }
 
-// What was read: how many bytes, how many of them by the last read, and whether a read failed.
+// What was read: how many bytes, and what the last read answered.
 struct Input {
     count: usize,
-    last: usize,
-    failed: bool,
+    last: isize,
 }
 
-// Reads up to the end of the input, where a read gives no bytes, or until the buffer is full: a read may give fewer bytes than there are.
+// Reads up to the end of the input, where a read gives no bytes, until the buffer is full, or until a read fails: a read may give fewer bytes
+// than there are.
 fn read_input(input: &mut [u8]) -> Input
     requires { ⌜ inputMax < length (now input) ⌝ }
     ensures { λ r. ⌜ Counts (r .count) (now (input .exit)) ⌝ }
-    ensures { λ r. ⌜ Whole (r .count) (r .last) ⌝ }
+    ensures { λ r. ⌜ WasRead (r .count) (r .last) ⌝ }
 {
     let mut count = 0;
-    let mut last = 0;
-    while count < input.len() {
-        let got = libc::read(STDIN_FILENO, &mut input[count..]);
-        last = io::count(got, &input[count..]);
-        if last == 0 {
-            return Input {
-                count,
-                last,
-                failed: got < 0,
-            };
+    loop {
+        let last = libc::read(STDIN_FILENO, &mut input[count..]);
+        if last <= 0 {
+            return Input { count, last };
         }
-        count += last;
-    }
-    Input {
-        count,
-        last,
-        failed: false,
+        count += io::count(last, &input[count..]);
+        if count == input.len() {
+            return Input { count, last };
+        }
     }
 }
 
 fn main() {
     let mut input = [0u8; INPUT];
     let read = read_input(&mut input);
-    if read.failed {
+    let count = read.count;
+    let last = read.last;
+    if last < 0 {
         io::write_all(STDERR_FILENO, b"sharelist: cannot read\n");
         return;
     }
-    let count = read.count;
-    list(&input[..count]);
+    let mut sent = 0;
+    list(STDOUT_FILENO, &input[..count], last, &mut sent);
 }

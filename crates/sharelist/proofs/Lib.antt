@@ -1,0 +1,3 @@
+-- What a read's answer says (Reading); bytes handed on piece by piece (Handing).
+pub mod Reading
+pub mod Handing
