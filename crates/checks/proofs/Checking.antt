@@ -16,7 +16,8 @@ use Rattle.word.specs.declared.step.Decoded.the-variants.{Good, Bad}
 use Rattle.checks.specs.declared.reader.Read.{Read}
 use Rattle.checks.specs.declared.reader.Read.the-variants.{Word, End}
 use Rattle.checks.specs.Reader.{readAt}
-use Rattle.checks.specs.Answers.{firstOf, firstBad, FirstBad, FirstBadFound}
+use Rattle.checks.specs.Answers.{firstOf, firstBad, goodRead, FirstBad, FirstBadFound}
+use Rattle.word.specs.Encoding.{isGood}
 
 module _ (l : List ℕ) (i : ℕ) where
   -- what a reader's finding at place i says of the list
@@ -51,6 +52,37 @@ module _ (step : ℕ → Decoded) (l : List ℕ) (i : ℕ) where
   -- or at the end
   pub at-end : Passed → length l ≤ i → i ≡ firstBad step l
   at-end h le = sym (h ∙ ap (λ (r : List ℕ). i + firstBad step r) (drop-of-length-le l le) ∙ add-zero i)
+
+-- the turns of a search that asks of what a reader finds at its place whether it is a good word
+good-step : (d : Decoded) → isGood d ≡ true → (s : Step) × (d ≡ Good s)
+good-step (Good s) e = (s, refl)
+good-step Bad e = let z : _≡_ {A = ℕ} 0 1 = ap (λ (b : Bool). cond {A = ℕ} b 1 0) e in absurd (omega arith)
+
+bad-step : (d : Decoded) → isGood d ≡ false → d ≡ Bad
+bad-step (Good s) e = let z : _≡_ {A = ℕ} 1 0 = ap (λ (b : Bool). cond {A = ℕ} b 1 0) e in absurd (omega arith)
+bad-step Bad e = refl
+
+module _ (step : ℕ → Decoded) (l : List ℕ) (i : ℕ) (h : Passed step l i) where
+  -- it is: its place is before the end, and it is passed
+  pub asked-one : goodRead step (readAt l i) ≡ true → (i < length l) × Passed step l (i + 1)
+  asked-one = by (readAt l i) refl
+    where
+      by : (r : Read) → readAt l i ≡ r → goodRead step r ≡ true → (i < length l) × Passed step l (i + 1)
+      by (Word w) e g =
+          let s = says l i (Word w) e in
+          let q = good-step (step (getD l i 0)) (ap (λ (x : ℕ). isGood (step x)) (s .1) ∙ g) in
+          (s .0, passed-one step l i h (s .0) (q .1))
+      by End e g = let z : _≡_ {A = ℕ} 0 1 = ap (λ (b : Bool). cond {A = ℕ} b 1 0) g in absurd (omega arith)
+
+  -- it is not: the search ends there
+  pub asked-end : goodRead step (readAt l i) ≡ false → i ≡ firstBad step l
+  asked-end = by (readAt l i) refl
+    where
+      by : (r : Read) → readAt l i ≡ r → goodRead step r ≡ false → i ≡ firstBad step l
+      by (Word w) e g =
+          let s = says l i (Word w) e in
+          at-bad step l i h (s .0) (bad-step (step (getD l i 0)) (ap (λ (x : ℕ). isGood (step x)) (s .1) ∙ g))
+      by End e g = at-end step l i h (says l i End e)
 
 -- the place is that of the first bad word, and the end only where there is none
 pub first-bad : FirstBadFound

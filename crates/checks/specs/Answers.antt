@@ -8,9 +8,11 @@ use lib.ListN.{length, getD}
 use Rattle.word.specs.declared.step.Step.{Step}
 use Rattle.word.specs.declared.step.Decoded.{Decoded}
 use Rattle.word.specs.declared.step.Decoded.the-variants.{Good, Bad}
-use Rattle.word.specs.Encoding.{planStep, programStep}
+use Rattle.word.specs.Encoding.{planStep, programStep, isGood}
 use Rattle.word.specs.Layout.{planMax, programMax}
 use Rattle.checks.specs.declared.answer.Answer.{Answer}
+use Rattle.checks.specs.declared.reader.Read.{Read}
+use Rattle.checks.specs.declared.reader.Read.the-variants.{Word, End}
 
 -- "checking finds the first bad word and leaves the search there": its place from 0, or the list's length where no word is bad
 abbrev pub firstOf : Decoded → ℕ → ℕ
@@ -20,6 +22,11 @@ firstOf Bad rest = 0
 abbrev pub firstBad : (ℕ → Decoded) → List ℕ → ℕ
 firstBad step [] = 0
 firstBad step (w ∷ ws) = firstOf (step w) (firstBad step ws)
+
+-- whether what a reader finds is a good word: neither the plan's end nor a bad word
+abbrev pub goodRead : (ℕ → Decoded) → Read → Bool
+goodRead step (Word w) = isGood (step w)
+goodRead step End = false
 
 -- what is proved of it: every word before the place is good, and the word at the place is bad unless the place is the end
 pub record FirstBad (step : ℕ → Decoded) (l : List ℕ) (place : ℕ) : Type 0 where

@@ -1,26 +1,38 @@
 // Checking a plan: the search for its first bad word, and the check that every call on a plan goes by.
 ghost use mathlib.Core.Path.{_≡_};
-ghost use Rattle.checks.specs.Answers.{done, firstBad, planChecked};
+ghost use Rattle.checks.specs.Answers.{done, firstBad, goodRead, planChecked};
 ghost use Rattle.word.specs.Encoding.{planStep};
 use crate::answer::Answer;
 use crate::reader::Read;
-use crate::reader::word_at;
+use crate::reader::advance;
+use crate::reader::at;
+use crate::reader::next_word;
 use word::step::Decoded;
 use word::step_word::StepWord;
 
-// The place of the plan's first bad word, or the plan's end where no word is bad.
+// Whether what a reader found is a good word of a plan: the plan's end, and a bad word, are answered first.
+pub fn is_good(found: Read) -> bool
+    ensures { λ r. ⌜ r ≡ goodRead planStep found ⌝ }
+{
+    let Read::Word(w) = found else {
+        return false;
+    };
+    let Decoded::Good(_) = StepWord::of(w).plan_step() else {
+        return false;
+    };
+    true
+}
+
+// The place of the plan's first bad word, or the plan's end where no word is bad: the reader stands there when the search ends.
 pub fn plan_first_bad(plan: &[u32]) -> usize
     ensures { λ r. ⌜ r ≡ firstBad planStep (now (plan .entry)) ⌝ }
 {
-    let mut i = 0;
+    let mut reader = at(plan, 0);
     loop {
-        let Read::Word(w) = word_at(plan, i) else {
-            break i;
-        };
-        let Decoded::Good(_) = StepWord::of(w).plan_step() else {
-            break i;
-        };
-        i += 1;
+        if !is_good(next_word(reader)) {
+            break reader.next;
+        }
+        reader = advance(reader);
     }
 }
 

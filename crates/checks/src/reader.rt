@@ -1,5 +1,6 @@
 // The plan reader: the lent plan and the number of the next word. A struct that holds a reference is outside what the borrow checker
-// covers, so the functions over it only take it apart or make it; the work is in functions of plain parameters below and above them.
+// covers, so the functions over it here only take it apart or make it, and reading is in functions of plain parameters. The search that keeps
+// a reader and advances it is `plan::plan_first_bad`.
 ghost use mathlib.Core.Path.{_≡_};
 ghost use Prim.Native.Nat.{_+_, _-_, _<_, _^_};
 ghost use lib.ListN.{length};
@@ -66,11 +67,4 @@ pub fn left<'a>(r: PlanReader<'a>) -> usize
     ensures { λ n. ⌜ n ≡ length (now (r .entry .plan)) - r .entry .next ⌝ }
 {
     left_from(r.plan, r.next)
-}
-
-// What a reader finds that stands at word i. Its parameters are plain: who calls it needs no proof by hand.
-pub fn word_at(plan: &[u32], i: usize) -> Read
-    ensures { λ r. ⌜ r ≡ readAt (now (plan .entry)) i ⌝ }
-{
-    next_word(at(plan, i))
 }
