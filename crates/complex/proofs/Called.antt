@@ -5,25 +5,19 @@ use mathlib.Core.List.{List, [], _∷_}
 use Prim.Native.Nat.{ℕ, _-_, _≤_}
 use native.Mathlib.Omega.{arith}
 use lib.ListN.{length, drop, length-take, length-drop}
-use borrow.Author.Tests.{le-leb, le-ltb, eq-eqb}
+use borrow.Author.Tests.{eq-eqb}
 use Rattle.checks.specs.declared.answer.Answer.{Answer}
 use Rattle.checks.specs.Answers.{done, afterCall}
 use Rattle.masking.specs.Foretold.{foretoldTape}
 use Rattle.plans.specs.BuiltIns.{planOf}
 use Rattle.execution.specs.Shares.{answerFor, resultShares, callAnswer}
 use Rattle.execution.proofs.Beside.{result-part}
+use Rattle.operations.proofs.Tape.{answer-done}
 use Rattle.complex.specs.Acts.{Call, Slots, tapeFor, runShares}
 use Rattle.complex.specs.Secrecy.{partOf}
 use Rattle.complex.specs.Holds.{ActsAreCalls}
 use Rattle.complex.proofs.Laws.{tape-append, shares-append}
 use Rattle.complex.proofs.Slots.{plan-accepted, acts-shared}
-
--- every test passes
-pub answer-done : (needed n other result work tape : ℕ) → 2 ≤ n → n ≤ 8 → other ≡ n → result ≡ n → work ≡ 512 → needed ≤ tape
-    → answerFor needed n other result work tape ≡ done 0 needed
-unfolding answerFor
-answer-done needed n other result work tape least most o r w enough =
-    rw (le-leb 2 n least, le-leb n 8 most, eq-eqb other n o, eq-eqb result n r, eq-eqb work 512 w, le-ltb tape needed enough)
 
 pub acts-are-calls : ActsAreCalls
 acts-are-calls n least most before o k a b puts s S tape W enough result work lr lw =

@@ -1,9 +1,11 @@
--- Places of a layer's pairs (Powers), laws of slots and acts (Laws), the plain layer (Plainly), what a done call was given (Answered), and the
--- lent words (Laid). What is proved of calculations made of calls: numbers stay n shares and hand on agreement in a share (Slots), they join
--- (Joined), each call gives what it gives by itself (Called), each step is secret (Secret), tape words (Tape); and at the lent words of the
--- complex product and a layer (Starts, Holds).
--- What a layer on plain words means (Means), what a complex product and a pair come to on shares (OnShares), and the worked examples (Examples).
+-- Sizes of a layer (Powers) and places of its pairs (Places), laws of slots and acts (Laws), the plain layer (Plainly), what a done call was
+-- given (Answered), and the lent words (Laid). What is proved of calculations made of calls: numbers stay n shares and hand on agreement in a
+-- share (Slots), they join (Joined), each call gives what it gives by itself (Called), each step is secret (Secret), tape words (Tape); and at
+-- the lent words of the complex product and a layer (Starts, Holds).
+-- What a layer on plain words means (Means), what complex product, pair and layer come to on shares (OnShares), what their calls
+-- report (RandomWords), and the worked examples (Examples).
 pub mod Powers
+pub mod Places
 pub mod Laws
 pub mod Laid
 pub mod Answered
@@ -16,5 +18,6 @@ pub mod Starts
 pub mod Holds
 pub mod Means
 pub mod OnShares
+pub mod RandomWords
 pub mod Examples
 mod Plainly

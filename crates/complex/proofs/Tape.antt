@@ -50,5 +50,8 @@ module _ (n : ℕ) (least : 2 ≤ n) (most : n ≤ 8) where
   pub complex-units : complexTape n ≡ 410 * (n * (n - 1))
   complex-units = both .0
 
+  pub pair-units : 4 * foretoldTape n productPlan + 6 * foretoldTape n sumPlan ≡ 622 * (n * (n - 1))
+  pair-units = both .1
+
   pub layer-units : (N : ℕ) → layerTape n N ≡ N / 2 * (622 * (n * (n - 1)))
-  layer-units N = ap (λ (k : ℕ). N / 2 * k) (both .1)
+  layer-units N = ap (λ (k : ℕ). N / 2 * k) pair-units

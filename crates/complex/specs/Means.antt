@@ -1,11 +1,11 @@
 -- What a layer on plain words comes to in closed form. Calls' `layerWords` is defined by acts done one after another; document 02, No. 5, says
 -- what each pair becomes: "Each pair u, v, places p and p + h of a block, becomes u + w·v and u − w·v in the same places, with w as a + bi."
--- And what the complex product and a pair come to on shares: which words of the tape each of their calls goes by.
+-- And what the complex product, a pair and a layer come to on shares: which words of the tape each of their calls goes by.
 use mathlib.Core.Path.{_≡_}
 use mathlib.Core.Bool.{true}
 use mathlib.Core.List.{List}
 use mathlib.Core.Logic.{_⊎_}
-use Prim.Native.Nat.{ℕ, _+_, _*_, _/_, _^_, _≤_, _<_}
+use Prim.Native.Nat.{ℕ, _+_, _-_, _*_, _/_, _^_, _≤_, _<_}
 use lib.ListN.{length, getD, drop}
 use Rattle.masking.specs.Foretold.{foretoldTape}
 use Rattle.binary64.specs.Sum.{sum}
@@ -15,7 +15,8 @@ use Rattle.execution.specs.Shares.{resultShares}
 use Rattle.complex.specs.Acts.{Slots, flipped, plainShares, flippedFirst, runShares}
 use Rattle.complex.specs.Complex.{slotA, slotB, slotC, slotD, slotRe, slotIm, complexActs, complexRe, complexIm}
 use Rattle.complex.specs.Layer.{isLayer, placeOf, blockCount, pairActs}
-use Rattle.complex.specs.Calls.{layerWords}
+use Rattle.complex.specs.Layout.{numberOf}
+use Rattle.complex.specs.Calls.{layerShares, layerWords}
 
 -- The pair of number k, by rising place, among numbers and after.
 module _ (N h : ℕ) (numbers factors after : List ℕ) (k : ℕ) where
@@ -97,32 +98,42 @@ module _ (n : ℕ) (tape : List ℕ) where
   abbrev pub imFrom : List ℕ → List ℕ → List ℕ → List ℕ → List ℕ
   imFrom a b c d = sumFrom (4 * productTape + sumTape) (productFrom (2 * productTape) a d) (productFrom (3 * productTape) b c)
 
+  -- the pair of u at place p, with the plain factor re + im·i, from the numbers before
+  module _ (N h re im p : ℕ) (before : ℕ → List ℕ) where
+    -- w·v, "with w as a + bi"
+    abbrev pub wvReShares : List ℕ
+    wvReShares = reFrom (plainShares n re) (plainShares n im) (before (p + h)) (before (N + (p + h)))
+
+    abbrev pub wvImShares : List ℕ
+    wvImShares = imFrom (plainShares n re) (plainShares n im) (before (p + h)) (before (N + (p + h)))
+
+    -- "u plus and u minus, each real part first", in the same places of the numbers after
+    pub record PairOnShares (after : ℕ → List ℕ) : Type 0 where
+      pub plus-re : after p ≡ sumFrom (4 * productTape + 2 * sumTape) (before p) wvReShares
+      pub plus-im : after (N + p) ≡ sumFrom (4 * productTape + 3 * sumTape) (before (N + p)) wvImShares
+      pub minus-re : after (p + h) ≡ sumFrom (4 * productTape + 4 * sumTape) (before p) (flippedFirst wvReShares)
+      pub minus-im : after (N + (p + h)) ≡ sumFrom (4 * productTape + 5 * sumTape) (before (N + p)) (flippedFirst wvImShares)
+
   module _ (s : Slots (List ℕ)) where
     pub record ComplexComesTo : Type 0 where
       pub re : runShares n complexActs tape s .held slotRe ≡ reFrom (s .held slotA) (s .held slotB) (s .held slotC) (s .held slotD)
       pub im : runShares n complexActs tape s .held slotIm ≡ imFrom (s .held slotA) (s .held slotB) (s .held slotC) (s .held slotD)
 
-    -- the pair of u at place p, with the plain factor re + im·i
     module _ (N h re im p : ℕ) where
       abbrev pub pairAfter : Slots (List ℕ)
       pairAfter = runShares n (pairActs N h re im p) tape s
 
-      -- w·v, "with w as a + bi"
-      abbrev pub wvReShares : List ℕ
-      wvReShares = reFrom (plainShares n re) (plainShares n im) (s .lent (p + h)) (s .lent (N + (p + h)))
-
-      abbrev pub wvImShares : List ℕ
-      wvImShares = imFrom (plainShares n re) (plainShares n im) (s .lent (p + h)) (s .lent (N + (p + h)))
-
-      -- "u plus and u minus, each real part first"
       pub record PairComesTo : Type 0 where
-        pub plus-re : pairAfter .lent p ≡ sumFrom (4 * productTape + 2 * sumTape) (s .lent p) wvReShares
-        pub plus-im : pairAfter .lent (N + p) ≡ sumFrom (4 * productTape + 3 * sumTape) (s .lent (N + p)) wvImShares
-        pub minus-re : pairAfter .lent (p + h) ≡ sumFrom (4 * productTape + 4 * sumTape) (s .lent p) (flippedFirst wvReShares)
-        pub minus-im : pairAfter .lent (N + (p + h)) ≡ sumFrom (4 * productTape + 5 * sumTape) (s .lent (N + p)) (flippedFirst wvImShares)
+        pub own : PairOnShares N h re im p (s .lent) (pairAfter .lent)
         -- all other numbers are as they were
         pub others : (j : ℕ) → (j ≡ p → ⊥) → (j ≡ N + p → ⊥) → (j ≡ p + h → ⊥) → (j ≡ N + (p + h) → ⊥) → pairAfter .lent j ≡ s .lent j
 
 pub record OnSharesMeans : Type 0 where
   pub complex : (n : ℕ) (tape : List ℕ) (s : Slots (List ℕ)) → ComplexComesTo n tape s
   pub pair : (n : ℕ) (tape : List ℕ) (s : Slots (List ℕ)) (N h re im p : ℕ) → 0 < h → p + h < N → PairComesTo n tape s N h re im p
+  -- a whole layer, in the lent words: "pairs by rising place", "one after another on the tape". Pair k runs on its numbers as they were lent, over
+  -- the tape from word k·622·n(n − 1) on, with the factor of its block. By `places` above each number is one of a pair's four.
+  pub layer : (n N h : ℕ) (numbers factors tape : List ℕ) → 2 ≤ n → n ≤ 8 → isLayer N h ≡ true → (k : ℕ) → k < N / 2
+      → PairOnShares n (drop (k * (622 * (n * (n - 1)))) tape) N h (getD factors (k / h) 0) (getD factors (blockCount N h + k / h) 0) (placeOf h k)
+      (λ j. numberOf n (2 * N) j numbers) (λ j. numberOf n (2 * N) j (layerShares n N h numbers factors tape))
+  pub layer-size : (n N h : ℕ) (numbers factors tape : List ℕ) → length (layerShares n N h numbers factors tape) ≡ 2 * N * n

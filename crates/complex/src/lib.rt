@@ -4,6 +4,7 @@ ghost use Rattle.binary64.specs.Sum.{sum};
 ghost use Rattle.complex.specs.Acts.{flipped};
 ghost use Rattle.complex.specs.Calls.{plainCallAnswer, plainLayerAnswer, plainNumbers};
 ghost use Rattle.complex.specs.Complex.{complexIm, complexRe};
+ghost use Rattle.complex.specs.Means.{LayerMeans};
 use crate::pairs::all_pairs;
 use crate::sizes::is_layer;
 use checks::answer::Answer;
@@ -63,6 +64,7 @@ fn layer_answer(count: usize, distance: usize, numbers: usize, factors: usize) -
 pub fn layer(count: usize, distance: usize, numbers: &mut [u64], factors: &[u64]) -> Answer
     ensures answer { λ r. ⌜ r ≡ plainCallAnswer count distance (now (numbers .entry)) (now (factors .entry)) ⌝ }
     ensures numbers { λ _. ⌜ now (numbers .exit) ≡ plainNumbers count distance (now (numbers .entry)) (now (factors .entry)) ⌝ }
+    ensures holds { λ _. ⌜ LayerMeans ⌝ }
 {
     let answer = layer_answer(count, distance, numbers.len(), factors.len());
     if answer.number == 0 {

@@ -24,15 +24,16 @@ use Rattle.binary64.proofs.Edges.{edges-hold, rounding-edges-hold}
 use Rattle.plans.proofs.BuiltIns as plans
 use Rattle.plans.proofs.product.Words as product
 use Rattle.operations.proofs.Masked as operations
+use Rattle.operations.proofs.Tape as tape
 use Rattle.splitting.proofs.SplitJoin as splitting
 use Rattle.complex.proofs.Holds as complex-numbers
 use Rattle.complex.proofs.Means as layer-meaning
 use Rattle.complex.proofs.OnShares as on-shares
+use Rattle.complex.proofs.RandomWords as transform-tape
 use Rattle.complex.proofs.Examples as worked-complex
 use Rattle.listing.proofs.Whole as listing
 use Rattle.listing.proofs.Example as listed
 use Rattle.lubewon.specs.Claims.{Claims}
-use Rattle.lubewon.proofs.RandomWords as random
 use Rattle.lubewon.proofs.TurnDowns as turned-down
 
 pub claims : Claims
@@ -70,7 +71,8 @@ claims =
       transforms = complex-numbers.transforms;
       layer-means = layer-meaning.layer-means;
       on-shares-means = on-shares.on-shares-means;
-      random-words = random.random-words;
+      random-words = tape.random-words;
+      transform-words = transform-tape.transform-words;
       pieces-are-listing = listing.pieces-are-listing;
       example = listed.example;
       word-examples = plain-examples.word-examples;

@@ -1,8 +1,4 @@
--- The root of what is claimed, proved (Claims), with the random words of the calls (RandomWords) and the examples of turn-downs (TurnDowns); its statements once more at their arguments
--- (Statements), and taken apart (Parts); both of the claims on complex numbers (Transformed).
+-- The root of what is claimed, proved (Claims), with the examples of turn-downs (TurnDowns); every claim once more, its type written out (stated).
 pub mod Claims
-pub mod Parts
-pub mod RandomWords
-pub mod Statements
-pub mod Transformed
 pub mod TurnDowns
+pub mod stated

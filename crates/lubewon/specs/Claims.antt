@@ -1,6 +1,6 @@
 -- Every top statement of the library, in one record: the root of what is claimed. `claims`, in proofs/, proves it, so that a statement that is
--- lost fails the gate; proofs/Statements and proofs/Parts do so for most that are narrowed or halved. docs/CLAIMS.md maps the sentences of documents
--- 01 and 02 to these fields.
+-- lost fails the gate. proofs/stated has the type of each field written out once more, here and in every record below, so that one that is narrowed,
+-- halved or asks for more fails there. docs/CLAIMS.md maps the sentences of documents 01 and 02 to these fields.
 use Rattle.bits.specs.Adder.{AdderAdds}
 use Rattle.word.specs.Parts.{WordsExact}
 use Rattle.checks.specs.Answers.{FirstBadFound}
@@ -23,13 +23,14 @@ use Rattle.binary64.specs.Edges.{EdgesHold, RoundingEdgesHold}
 use Rattle.plans.specs.BuiltIns.{BuiltIns}
 use Rattle.plans.specs.ProductRows.{ByRows}
 use Rattle.operations.specs.Masked.{Masked}
+use Rattle.operations.specs.RandomWords.{RandomWords}
 use Rattle.splitting.specs.SplitJoin.{SplitJoins}
 use Rattle.complex.specs.Holds.{Transforms}
 use Rattle.complex.specs.Means.{LayerMeans, OnSharesMeans}
+use Rattle.complex.specs.RandomWords.{TransformWords}
 use Rattle.complex.specs.Examples.{ComplexExamples}
 use Rattle.listing.specs.Sharelist.{ExampleListed}
 use Rattle.listing.specs.Pieces.{PiecesAreListing}
-use Rattle.lubewon.specs.RandomWords.{RandomWords}
 use Rattle.lubewon.specs.TurnDowns.{TurnDowns}
 
 pub record Claims : Type 0 where
@@ -73,11 +74,12 @@ pub record Claims : Type 0 where
   pub split-joins : SplitJoins
   -- complex product and layer on shares: joined results, tape words, and the secrecy of each step of each of their calls
   pub transforms : Transforms
-  -- what a layer makes of each pair, on plain words; what complex product and pair come to on shares, call by call on the tape
+  -- what a layer makes of each pair, on plain words; what complex product, pair and layer come to on shares, call by call on the tape
   pub layer-means : LayerMeans
   pub on-shares-means : OnSharesMeans
-  -- how many random words each operation on shares takes, the complex product and a layer
+  -- how many random words each operation on shares takes; the complex product and a layer
   pub random-words : RandomWords
+  pub transform-words : TransformWords
   -- the listing in the pieces that `list_piece` writes, and document 01's example of it
   pub pieces-are-listing : PiecesAreListing
   pub example : ExampleListed

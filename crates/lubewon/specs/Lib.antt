@@ -1,4 +1,3 @@
--- The root of what is claimed (Claims), how many random words the calls take (RandomWords), and examples of turn-downs (TurnDowns).
-pub mod RandomWords
+-- The root of what is claimed (Claims), and examples of turn-downs (TurnDowns).
 pub mod Claims
 pub mod TurnDowns

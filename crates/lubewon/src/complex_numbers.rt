@@ -1,8 +1,11 @@
-// Complex numbers for C: the product and one layer of the transform, on shares and on plain words. What holds of those on shares is `Transforms`.
+// Complex numbers for C: the product and one layer of the transform, on shares and on plain words. What holds of those on shares is `Transforms`; what they
+// come to, `LayerMeans` and `OnSharesMeans`; how many tape words they report, `TransformWords`.
 ghost use mathlib.Core.Path.{_≡_};
 ghost use Rattle.complex.specs.Calls.{complexCallAnswer, complexResult, complexWork, layerCallAnswer, layerNumbers, layerWork, plainCallAnswer, plainNumbers};
 ghost use Rattle.complex.specs.Complex.{complexIm, complexRe};
 ghost use Rattle.complex.specs.Holds.{Transforms};
+ghost use Rattle.complex.specs.Means.{LayerMeans, OnSharesMeans};
+ghost use Rattle.complex.specs.RandomWords.{TransformWords};
 use checks::answer::Answer;
 use complex::Complex;
 
@@ -25,6 +28,7 @@ pub extern "C" fn lubewon_layer(
 ) -> Answer
     ensures answer { λ r. ⌜ r ≡ plainCallAnswer count distance (now (numbers .entry)) (now (factors .entry)) ⌝ }
     ensures numbers { λ _. ⌜ now (numbers .exit) ≡ plainNumbers count distance (now (numbers .entry)) (now (factors .entry)) ⌝ }
+    ensures holds { λ _. ⌜ LayerMeans ⌝ }
 {
     complex::layer(count, distance, numbers, factors)
 }
@@ -43,6 +47,8 @@ pub extern "C" fn lubewon_complex_product_shares(
     ensures result { λ _. ⌜ now (result .exit) ≡ complexResult n (now (x .entry)) (now (y .entry)) (now (result .entry)) (now (work .entry)) (now (tape .entry)) ⌝ }
     ensures work { λ _. ⌜ now (work .exit) ≡ complexWork n (now (x .entry)) (now (y .entry)) (now (result .entry)) (now (work .entry)) (now (tape .entry)) ⌝ }
     ensures holds { λ _. ⌜ Transforms ⌝ }
+    ensures means { λ _. ⌜ OnSharesMeans ⌝ }
+    ensures words { λ _. ⌜ TransformWords ⌝ }
 {
     transform::complex_product(n, x, y, result, work, tape)
 }
@@ -62,6 +68,9 @@ pub extern "C" fn lubewon_layer_shares(
     ensures numbers { λ _. ⌜ now (numbers .exit) ≡ layerNumbers n count distance (now (numbers .entry)) (now (factors .entry)) (now (work .entry)) (now (tape .entry)) ⌝ }
     ensures work { λ _. ⌜ now (work .exit) ≡ layerWork n count distance (now (numbers .entry)) (now (factors .entry)) (now (work .entry)) (now (tape .entry)) ⌝ }
     ensures holds { λ _. ⌜ Transforms ⌝ }
+    ensures plainly { λ _. ⌜ LayerMeans ⌝ }
+    ensures means { λ _. ⌜ OnSharesMeans ⌝ }
+    ensures words { λ _. ⌜ TransformWords ⌝ }
 {
     transform::layer(n, count, distance, numbers, factors, work, tape)
 }

@@ -6,6 +6,7 @@ ghost use Rattle.plans.specs.FloorPlan.{floorPlan};
 ghost use Rattle.plans.specs.TruncatePlan.{truncatePlan};
 ghost use Rattle.plans.specs.NearestPlan.{nearestPlan};
 ghost use Rattle.operations.specs.Masked.{Masked};
+ghost use Rattle.operations.specs.RandomWords.{RandomWords};
 ghost use Rattle.execution.specs.Shares.{callAnswer, resultAfter, workAfter, zerosFor};
 use checks::answer::Answer;
 
@@ -21,6 +22,7 @@ pub extern "C" fn lubewon_product_in_place(
     ensures x { λ _. ⌜ now (x .exit) ≡ resultAfter productPlan (now (x .entry)) (now (y .entry)) (now (x .entry)) (now (work .entry)) (now (tape .entry)) ⌝ }
     ensures work { λ _. ⌜ now (work .exit) ≡ workAfter productPlan (now (x .entry)) (now (y .entry)) (now (x .entry)) (now (work .entry)) (now (tape .entry)) ⌝ }
     ensures holds { λ _. ⌜ Masked ⌝ }
+    ensures words { λ _. ⌜ RandomWords ⌝ }
 {
     operations::in_place::product(x, y, work, tape)
 }
@@ -37,6 +39,7 @@ pub extern "C" fn lubewon_sum_in_place(
     ensures x { λ _. ⌜ now (x .exit) ≡ resultAfter sumPlan (now (x .entry)) (now (y .entry)) (now (x .entry)) (now (work .entry)) (now (tape .entry)) ⌝ }
     ensures work { λ _. ⌜ now (work .exit) ≡ workAfter sumPlan (now (x .entry)) (now (y .entry)) (now (x .entry)) (now (work .entry)) (now (tape .entry)) ⌝ }
     ensures holds { λ _. ⌜ Masked ⌝ }
+    ensures words { λ _. ⌜ RandomWords ⌝ }
 {
     operations::in_place::sum(x, y, work, tape)
 }
@@ -48,6 +51,7 @@ pub extern "C" fn lubewon_floor_in_place(x: &mut [u64], work: &mut [u64], tape: 
     ensures x { λ _. ⌜ now (x .exit) ≡ resultAfter floorPlan (now (x .entry)) (zerosFor (now (x .entry))) (now (x .entry)) (now (work .entry)) (now (tape .entry)) ⌝ }
     ensures work { λ _. ⌜ now (work .exit) ≡ workAfter floorPlan (now (x .entry)) (zerosFor (now (x .entry))) (now (x .entry)) (now (work .entry)) (now (tape .entry)) ⌝ }
     ensures holds { λ _. ⌜ Masked ⌝ }
+    ensures words { λ _. ⌜ RandomWords ⌝ }
 {
     operations::in_place::floor(x, work, tape)
 }
@@ -59,6 +63,7 @@ pub extern "C" fn lubewon_truncate_in_place(x: &mut [u64], work: &mut [u64], tap
     ensures x { λ _. ⌜ now (x .exit) ≡ resultAfter truncatePlan (now (x .entry)) (zerosFor (now (x .entry))) (now (x .entry)) (now (work .entry)) (now (tape .entry)) ⌝ }
     ensures work { λ _. ⌜ now (work .exit) ≡ workAfter truncatePlan (now (x .entry)) (zerosFor (now (x .entry))) (now (x .entry)) (now (work .entry)) (now (tape .entry)) ⌝ }
     ensures holds { λ _. ⌜ Masked ⌝ }
+    ensures words { λ _. ⌜ RandomWords ⌝ }
 {
     operations::in_place::truncate(x, work, tape)
 }
@@ -70,6 +75,7 @@ pub extern "C" fn lubewon_nearest_in_place(x: &mut [u64], work: &mut [u64], tape
     ensures x { λ _. ⌜ now (x .exit) ≡ resultAfter nearestPlan (now (x .entry)) (zerosFor (now (x .entry))) (now (x .entry)) (now (work .entry)) (now (tape .entry)) ⌝ }
     ensures work { λ _. ⌜ now (work .exit) ≡ workAfter nearestPlan (now (x .entry)) (zerosFor (now (x .entry))) (now (x .entry)) (now (work .entry)) (now (tape .entry)) ⌝ }
     ensures holds { λ _. ⌜ Masked ⌝ }
+    ensures words { λ _. ⌜ RandomWords ⌝ }
 {
     operations::in_place::nearest(x, work, tape)
 }

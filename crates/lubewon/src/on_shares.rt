@@ -6,6 +6,7 @@ ghost use Rattle.plans.specs.FloorPlan.{floorPlan};
 ghost use Rattle.plans.specs.TruncatePlan.{truncatePlan};
 ghost use Rattle.plans.specs.NearestPlan.{nearestPlan};
 ghost use Rattle.operations.specs.Masked.{Masked};
+ghost use Rattle.operations.specs.RandomWords.{RandomWords};
 ghost use Rattle.execution.specs.Shares.{callAnswer, resultAfter, workAfter, zerosFor};
 use checks::answer::Answer;
 
@@ -22,6 +23,7 @@ pub extern "C" fn lubewon_product_shares(
     ensures result { λ _. ⌜ now (result .exit) ≡ resultAfter productPlan (now (x .entry)) (now (y .entry)) (now (result .entry)) (now (work .entry)) (now (tape .entry)) ⌝ }
     ensures work { λ _. ⌜ now (work .exit) ≡ workAfter productPlan (now (x .entry)) (now (y .entry)) (now (result .entry)) (now (work .entry)) (now (tape .entry)) ⌝ }
     ensures holds { λ _. ⌜ Masked ⌝ }
+    ensures words { λ _. ⌜ RandomWords ⌝ }
 {
     operations::product(x, y, result, work, tape)
 }
@@ -39,6 +41,7 @@ pub extern "C" fn lubewon_sum_shares(
     ensures result { λ _. ⌜ now (result .exit) ≡ resultAfter sumPlan (now (x .entry)) (now (y .entry)) (now (result .entry)) (now (work .entry)) (now (tape .entry)) ⌝ }
     ensures work { λ _. ⌜ now (work .exit) ≡ workAfter sumPlan (now (x .entry)) (now (y .entry)) (now (result .entry)) (now (work .entry)) (now (tape .entry)) ⌝ }
     ensures holds { λ _. ⌜ Masked ⌝ }
+    ensures words { λ _. ⌜ RandomWords ⌝ }
 {
     operations::sum(x, y, result, work, tape)
 }
@@ -55,6 +58,7 @@ pub extern "C" fn lubewon_floor_shares(
     ensures result { λ _. ⌜ now (result .exit) ≡ resultAfter floorPlan (now (x .entry)) (zerosFor (now (x .entry))) (now (result .entry)) (now (work .entry)) (now (tape .entry)) ⌝ }
     ensures work { λ _. ⌜ now (work .exit) ≡ workAfter floorPlan (now (x .entry)) (zerosFor (now (x .entry))) (now (result .entry)) (now (work .entry)) (now (tape .entry)) ⌝ }
     ensures holds { λ _. ⌜ Masked ⌝ }
+    ensures words { λ _. ⌜ RandomWords ⌝ }
 {
     operations::floor(x, result, work, tape)
 }
@@ -71,6 +75,7 @@ pub extern "C" fn lubewon_truncate_shares(
     ensures result { λ _. ⌜ now (result .exit) ≡ resultAfter truncatePlan (now (x .entry)) (zerosFor (now (x .entry))) (now (result .entry)) (now (work .entry)) (now (tape .entry)) ⌝ }
     ensures work { λ _. ⌜ now (work .exit) ≡ workAfter truncatePlan (now (x .entry)) (zerosFor (now (x .entry))) (now (result .entry)) (now (work .entry)) (now (tape .entry)) ⌝ }
     ensures holds { λ _. ⌜ Masked ⌝ }
+    ensures words { λ _. ⌜ RandomWords ⌝ }
 {
     operations::truncate(x, result, work, tape)
 }
@@ -87,6 +92,7 @@ pub extern "C" fn lubewon_nearest_shares(
     ensures result { λ _. ⌜ now (result .exit) ≡ resultAfter nearestPlan (now (x .entry)) (zerosFor (now (x .entry))) (now (result .entry)) (now (work .entry)) (now (tape .entry)) ⌝ }
     ensures work { λ _. ⌜ now (work .exit) ≡ workAfter nearestPlan (now (x .entry)) (zerosFor (now (x .entry))) (now (result .entry)) (now (work .entry)) (now (tape .entry)) ⌝ }
     ensures holds { λ _. ⌜ Masked ⌝ }
+    ensures words { λ _. ⌜ RandomWords ⌝ }
 {
     operations::nearest(x, result, work, tape)
 }

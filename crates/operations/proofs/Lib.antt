@@ -1,7 +1,8 @@
 -- What is proved of the operations: the work slice at the start (Placed), joined results (Joined, and of the calls CallJoined), secrecy
--- (Secret), all together (Masked).
+-- (Secret), tape words (Tape), all together (Masked).
 pub mod Placed
 pub mod Joined
 pub mod CallJoined
 pub mod Secret
+pub mod Tape
 pub mod Masked

@@ -9,12 +9,14 @@ use Rattle.plans.specs.Computes.{Computes}
 use Rattle.plans.specs.BuiltIns.{described, planOf}
 use Rattle.plans.proofs.BuiltIns.{built-ins}
 use Rattle.operations.specs.Masked.{AnyStart, OnShares, Masked}
+use Rattle.operations.specs.RandomWords.{RandomWords}
 use Rattle.execution.specs.Inner.{GoodPlan}
 use Rattle.execution.proofs.Plans.{runs-whole}
 use Rattle.execution.proofs.Known.{uncleared-steps}
 use Rattle.operations.proofs.Joined.{accepted, plan-joins}
 use Rattle.operations.proofs.CallJoined.{call-joins}
 use Rattle.operations.proofs.Secret.{operation-secret}
+use Rattle.operations.proofs.Tape.{random-words}
 
 -- a plan with what it computes is not too long and has no bad word
 pub good : {plan : List ℕ} {op : ℕ → ℕ → ℕ} → Computes plan op → GoodPlan plan
@@ -49,5 +51,5 @@ masked o =
     on-shares (planOf o) (onWords o) (B .computes) (any-start (B .computes) (described o .operands) (operands-low o) (B .inputs))
 
 -- what a call leaves, and with it what is proved of every operation
-pub with-masked : {A B C : Type 0} → A × (B × C) → A × (B × (C × Masked))
-with-masked h = (h .0, (h .1 .0, (h .1 .1, masked)))
+pub with-held : {A B C : Type 0} → A × (B × C) → A × (B × (C × (Masked × RandomWords)))
+with-held h = (h .0, (h .1 .0, (h .1 .1, (masked, random-words))))

@@ -6,6 +6,7 @@ ghost use Rattle.plans.specs.FloorPlan.{floorPlan};
 ghost use Rattle.plans.specs.TruncatePlan.{truncatePlan};
 ghost use Rattle.plans.specs.NearestPlan.{nearestPlan};
 ghost use Rattle.operations.specs.Masked.{Masked};
+ghost use Rattle.operations.specs.RandomWords.{RandomWords};
 ghost use Rattle.execution.specs.Shares.{callAnswer, resultAfter, workAfter, zerosFor};
 use checks::answer::Answer;
 
@@ -16,6 +17,7 @@ pub fn product(x: &mut [u64], y: &[u64], work: &mut [u64], tape: &[u64]) -> Answ
     ensures x { λ _. ⌜ now (x .exit) ≡ resultAfter productPlan (now (x .entry)) (now (y .entry)) (now (x .entry)) (now (work .entry)) (now (tape .entry)) ⌝ }
     ensures work { λ _. ⌜ now (work .exit) ≡ workAfter productPlan (now (x .entry)) (now (y .entry)) (now (x .entry)) (now (work .entry)) (now (tape .entry)) ⌝ }
     ensures holds { λ _. ⌜ Masked ⌝ }
+    ensures words { λ _. ⌜ RandomWords ⌝ }
 {
     straight_product::in_place::call(x, y, work, tape)
 }
@@ -26,6 +28,7 @@ pub fn sum(x: &mut [u64], y: &[u64], work: &mut [u64], tape: &[u64]) -> Answer
     ensures x { λ _. ⌜ now (x .exit) ≡ resultAfter sumPlan (now (x .entry)) (now (y .entry)) (now (x .entry)) (now (work .entry)) (now (tape .entry)) ⌝ }
     ensures work { λ _. ⌜ now (work .exit) ≡ workAfter sumPlan (now (x .entry)) (now (y .entry)) (now (x .entry)) (now (work .entry)) (now (tape .entry)) ⌝ }
     ensures holds { λ _. ⌜ Masked ⌝ }
+    ensures words { λ _. ⌜ RandomWords ⌝ }
 {
     straight_sum::in_place::call(x, y, work, tape)
 }
@@ -36,6 +39,7 @@ pub fn floor(x: &mut [u64], work: &mut [u64], tape: &[u64]) -> Answer
     ensures x { λ _. ⌜ now (x .exit) ≡ resultAfter floorPlan (now (x .entry)) (zerosFor (now (x .entry))) (now (x .entry)) (now (work .entry)) (now (tape .entry)) ⌝ }
     ensures work { λ _. ⌜ now (work .exit) ≡ workAfter floorPlan (now (x .entry)) (zerosFor (now (x .entry))) (now (x .entry)) (now (work .entry)) (now (tape .entry)) ⌝ }
     ensures holds { λ _. ⌜ Masked ⌝ }
+    ensures words { λ _. ⌜ RandomWords ⌝ }
 {
     straight_floor::in_place::call_of_one(x, work, tape)
 }
@@ -46,6 +50,7 @@ pub fn truncate(x: &mut [u64], work: &mut [u64], tape: &[u64]) -> Answer
     ensures x { λ _. ⌜ now (x .exit) ≡ resultAfter truncatePlan (now (x .entry)) (zerosFor (now (x .entry))) (now (x .entry)) (now (work .entry)) (now (tape .entry)) ⌝ }
     ensures work { λ _. ⌜ now (work .exit) ≡ workAfter truncatePlan (now (x .entry)) (zerosFor (now (x .entry))) (now (x .entry)) (now (work .entry)) (now (tape .entry)) ⌝ }
     ensures holds { λ _. ⌜ Masked ⌝ }
+    ensures words { λ _. ⌜ RandomWords ⌝ }
 {
     straight_truncate::in_place::call_of_one(x, work, tape)
 }
@@ -56,6 +61,7 @@ pub fn nearest(x: &mut [u64], work: &mut [u64], tape: &[u64]) -> Answer
     ensures x { λ _. ⌜ now (x .exit) ≡ resultAfter nearestPlan (now (x .entry)) (zerosFor (now (x .entry))) (now (x .entry)) (now (work .entry)) (now (tape .entry)) ⌝ }
     ensures work { λ _. ⌜ now (work .exit) ≡ workAfter nearestPlan (now (x .entry)) (zerosFor (now (x .entry))) (now (x .entry)) (now (work .entry)) (now (tape .entry)) ⌝ }
     ensures holds { λ _. ⌜ Masked ⌝ }
+    ensures words { λ _. ⌜ RandomWords ⌝ }
 {
     straight_nearest::in_place::call_of_one(x, work, tape)
 }

@@ -7,6 +7,7 @@ ghost use Rattle.plans.specs.FloorPlan.{floorPlan};
 ghost use Rattle.plans.specs.TruncatePlan.{truncatePlan};
 ghost use Rattle.plans.specs.NearestPlan.{nearestPlan};
 ghost use Rattle.operations.specs.Masked.{Masked};
+ghost use Rattle.operations.specs.RandomWords.{RandomWords};
 ghost use Rattle.execution.specs.Shares.{callAnswer, resultAfter, workAfter, zerosFor};
 use checks::answer::Answer;
 
@@ -19,6 +20,7 @@ pub fn product(x: &[u64], y: &[u64], result: &mut [u64], work: &mut [u64], tape:
     ensures result { λ _. ⌜ now (result .exit) ≡ resultAfter productPlan (now (x .entry)) (now (y .entry)) (now (result .entry)) (now (work .entry)) (now (tape .entry)) ⌝ }
     ensures work { λ _. ⌜ now (work .exit) ≡ workAfter productPlan (now (x .entry)) (now (y .entry)) (now (result .entry)) (now (work .entry)) (now (tape .entry)) ⌝ }
     ensures holds { λ _. ⌜ Masked ⌝ }
+    ensures words { λ _. ⌜ RandomWords ⌝ }
 {
     straight_product::calls::call(x, y, result, work, tape)
 }
@@ -29,6 +31,7 @@ pub fn sum(x: &[u64], y: &[u64], result: &mut [u64], work: &mut [u64], tape: &[u
     ensures result { λ _. ⌜ now (result .exit) ≡ resultAfter sumPlan (now (x .entry)) (now (y .entry)) (now (result .entry)) (now (work .entry)) (now (tape .entry)) ⌝ }
     ensures work { λ _. ⌜ now (work .exit) ≡ workAfter sumPlan (now (x .entry)) (now (y .entry)) (now (result .entry)) (now (work .entry)) (now (tape .entry)) ⌝ }
     ensures holds { λ _. ⌜ Masked ⌝ }
+    ensures words { λ _. ⌜ RandomWords ⌝ }
 {
     straight_sum::calls::call(x, y, result, work, tape)
 }
@@ -39,6 +42,7 @@ pub fn floor(x: &[u64], result: &mut [u64], work: &mut [u64], tape: &[u64]) -> A
     ensures result { λ _. ⌜ now (result .exit) ≡ resultAfter floorPlan (now (x .entry)) (zerosFor (now (x .entry))) (now (result .entry)) (now (work .entry)) (now (tape .entry)) ⌝ }
     ensures work { λ _. ⌜ now (work .exit) ≡ workAfter floorPlan (now (x .entry)) (zerosFor (now (x .entry))) (now (result .entry)) (now (work .entry)) (now (tape .entry)) ⌝ }
     ensures holds { λ _. ⌜ Masked ⌝ }
+    ensures words { λ _. ⌜ RandomWords ⌝ }
 {
     straight_floor::calls::call_of_one(x, result, work, tape)
 }
@@ -49,6 +53,7 @@ pub fn truncate(x: &[u64], result: &mut [u64], work: &mut [u64], tape: &[u64]) -
     ensures result { λ _. ⌜ now (result .exit) ≡ resultAfter truncatePlan (now (x .entry)) (zerosFor (now (x .entry))) (now (result .entry)) (now (work .entry)) (now (tape .entry)) ⌝ }
     ensures work { λ _. ⌜ now (work .exit) ≡ workAfter truncatePlan (now (x .entry)) (zerosFor (now (x .entry))) (now (result .entry)) (now (work .entry)) (now (tape .entry)) ⌝ }
     ensures holds { λ _. ⌜ Masked ⌝ }
+    ensures words { λ _. ⌜ RandomWords ⌝ }
 {
     straight_truncate::calls::call_of_one(x, result, work, tape)
 }
@@ -59,6 +64,7 @@ pub fn nearest(x: &[u64], result: &mut [u64], work: &mut [u64], tape: &[u64]) ->
     ensures result { λ _. ⌜ now (result .exit) ≡ resultAfter nearestPlan (now (x .entry)) (zerosFor (now (x .entry))) (now (result .entry)) (now (work .entry)) (now (tape .entry)) ⌝ }
     ensures work { λ _. ⌜ now (work .exit) ≡ workAfter nearestPlan (now (x .entry)) (zerosFor (now (x .entry))) (now (result .entry)) (now (work .entry)) (now (tape .entry)) ⌝ }
     ensures holds { λ _. ⌜ Masked ⌝ }
+    ensures words { λ _. ⌜ RandomWords ⌝ }
 {
     straight_nearest::calls::call_of_one(x, result, work, tape)
 }

@@ -2,7 +2,7 @@
 ghost use mathlib.Core.Path.{_≡_};
 ghost use Prim.Native.Nat.{_-_, _+_, _≤_, _<_};
 ghost use lib.ListN.{length, take};
-ghost use Rattle.splitting.specs.SplitJoin.{xorAll, splitOf, splitAnswer, splitOut, joinAnswer, joinedWord};
+ghost use Rattle.splitting.specs.SplitJoin.{xorAll, splitOf, splitAnswer, splitOut, joinAnswer, joinedWord, SplitJoins};
 use checks::answer::Answer;
 use checks::share_count::is_share_count;
 
@@ -39,6 +39,7 @@ fn mask(word: u64, tape: &[u64], out: &mut [u64])
 pub fn split(word: u64, tape: &[u64], out: &mut [u64]) -> Answer
     ensures answer { λ r. ⌜ r ≡ splitAnswer (length (now (out .entry))) (length (now (tape .entry))) ⌝ }
     ensures out { λ _. ⌜ now (out .exit) ≡ splitOut word (now (tape .entry)) (now (out .entry)) ⌝ }
+    ensures holds { λ _. ⌜ SplitJoins ⌝ }
 {
     let answer = split_answer(out.len(), tape.len());
     if answer.number == 0 {
@@ -78,6 +79,7 @@ fn unmask(shares: &[u64]) -> u64
 pub fn join(shares: &[u64]) -> Joined
     ensures answer { λ r. ⌜ r .answer ≡ joinAnswer (length (now (shares .entry))) ⌝ }
     ensures word { λ r. ⌜ r .word ≡ joinedWord (now (shares .entry)) ⌝ }
+    ensures holds { λ _. ⌜ SplitJoins ⌝ }
 {
     let answer = join_answer(shares.len());
     if answer.number == 0 {

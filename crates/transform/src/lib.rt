@@ -3,6 +3,8 @@
 ghost use mathlib.Core.Path.{_≡_};
 ghost use Rattle.complex.specs.Calls.{complexCallAnswer, complexResult, complexWork, layerCallAnswer, layerNumbers, layerWork};
 ghost use Rattle.complex.specs.Holds.{Transforms};
+ghost use Rattle.complex.specs.Means.{LayerMeans, OnSharesMeans};
+ghost use Rattle.complex.specs.RandomWords.{TransformWords};
 use crate::answers::complex_answer;
 use crate::answers::layer_answer;
 use crate::pairs::layer_done;
@@ -28,6 +30,8 @@ pub fn complex_product(
     ensures result { λ _. ⌜ now (result .exit) ≡ complexResult n (now (x .entry)) (now (y .entry)) (now (result .entry)) (now (work .entry)) (now (tape .entry)) ⌝ }
     ensures work { λ _. ⌜ now (work .exit) ≡ complexWork n (now (x .entry)) (now (y .entry)) (now (result .entry)) (now (work .entry)) (now (tape .entry)) ⌝ }
     ensures holds { λ _. ⌜ Transforms ⌝ }
+    ensures means { λ _. ⌜ OnSharesMeans ⌝ }
+    ensures words { λ _. ⌜ TransformWords ⌝ }
 {
     let answer = complex_answer(n, x.len(), y.len(), result.len(), work.len(), tape.len());
     if answer.number == 0 {
@@ -52,6 +56,9 @@ pub fn layer(
     ensures numbers { λ _. ⌜ now (numbers .exit) ≡ layerNumbers n count distance (now (numbers .entry)) (now (factors .entry)) (now (work .entry)) (now (tape .entry)) ⌝ }
     ensures work { λ _. ⌜ now (work .exit) ≡ layerWork n count distance (now (numbers .entry)) (now (factors .entry)) (now (work .entry)) (now (tape .entry)) ⌝ }
     ensures holds { λ _. ⌜ Transforms ⌝ }
+    ensures plainly { λ _. ⌜ LayerMeans ⌝ }
+    ensures means { λ _. ⌜ OnSharesMeans ⌝ }
+    ensures words { λ _. ⌜ TransformWords ⌝ }
 {
     let checked = layer_answer(
         n,

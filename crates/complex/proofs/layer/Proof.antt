@@ -4,6 +4,7 @@ use lib.ListN.{length}
 use borrow.Author.Needs.{needs}
 use borrow.Author.Tests.{eq-eqb, ne-eqb}
 use Rattle.complex.proofs.Answered.{plain-ready}
+use Rattle.complex.proofs.Means.{layer-means}
 use Rattle.complex.proofs.layer.Statement.{statement}
 use Rattle.complex.proofs.layer.Tie as tie
 
@@ -20,12 +21,12 @@ returns c =
     let a = c .before .before .before .before .before .before in
     let t = c .before .before .before .before in
     let e = a .layer-answer .ensures in
-    (e, rw (← e, eq-eqb _ 0 (t .if1 .taken)) (c .before .before .all-pairs .ensures))
+    (e, (rw (← e, eq-eqb _ 0 (t .if1 .taken)) (c .before .before .all-pairs .ensures), layer-means))
 
 returns-2 : tie.Need-returns-2
 returns-2 c =
     let e = c .before .before .layer-answer .ensures in
-    (e, rw (← e, ne-eqb _ 0 (c .if1 .left)))
+    (e, (rw (← e, ne-eqb _ 0 (c .if1 .left)), layer-means))
 
 pub layer-spec : {M : Type 1} → statement M
 layer-spec = tie.close (tie.spec (λ c κs. search needs) all-pairs-requires (λ c. search needs) returns returns-2)

@@ -3,7 +3,7 @@ use mathlib.Core.Path.{sym, ap, _∙_}
 use denote.Ref.{now}
 use lib.ListN.{length}
 use borrow.Author.Tests.{eq-eqb, ne-eqb}
-use Rattle.splitting.proofs.SplitJoin.{split-ready}
+use Rattle.splitting.proofs.SplitJoin.{split-ready, split-joins}
 use borrow.Author.Needs.{needs}
 use Rattle.splitting.proofs.split.Statement.{statement}
 use Rattle.splitting.proofs.split.Tie as tie
@@ -16,12 +16,12 @@ mask-requires c κs =
 returns : tie.Need-returns
 returns c =
     let e = c .before .before .before .before .before .before .split-answer .ensures in
-    (e, rw (← e, eq-eqb _ 0 (c .before .before .before .before .if1 .taken)) (c .before .before .mask .ensures))
+    (e, (rw (← e, eq-eqb _ 0 (c .before .before .before .before .if1 .taken)) (c .before .before .mask .ensures), split-joins))
 
 returns-2 : tie.Need-returns-2
 returns-2 c =
     let e = c .before .before .split-answer .ensures in
-    (e, rw (← e, ne-eqb _ 0 (c .if1 .left)))
+    (e, (rw (← e, ne-eqb _ 0 (c .if1 .left)), split-joins))
 
 pub split-spec : {M : Type 1} → statement M
 split-spec = tie.close (tie.spec

@@ -7,6 +7,8 @@ use borrow.Author.Needs.{needs}
 use borrow.Author.Tests.{eq-eqb, ne-eqb}
 use Rattle.complex.proofs.Answered.{complex-ready}
 use Rattle.complex.proofs.Holds.{transforms}
+use Rattle.complex.proofs.OnShares.{on-shares-means}
+use Rattle.complex.proofs.RandomWords.{transform-words}
 use Rattle.transform.proofs.complex_product.Statement.{statement}
 use Rattle.transform.proofs.complex_product.Tie as tie
 
@@ -25,12 +27,12 @@ returns c =
     let g = c .before .before .before .before .before .before .before .before .before .before .before .before .before .before .before .args in
     let R = complex-ready (g .n) (length (now (g .x))) (length (now (g .y))) (length (now (g .result))) (length (now (g .work))) (length (now (g .tape))) (a .result) e z in
     let d = c .before .before .before .before .product-done .ensures in
-    (e, (rw (← e, eq-eqb _ 0 z) (d .0), (rw (← e, eq-eqb _ 0 z) (d .1 ∙ ap (λ (k : ℕ). replicate k 0) (R .work-is)), transforms)))
+    (e, (rw (← e, eq-eqb _ 0 z) (d .0), (rw (← e, eq-eqb _ 0 z) (d .1 ∙ ap (λ (k : ℕ). replicate k 0) (R .work-is)), (transforms, (on-shares-means, transform-words)))))
 
 returns-2 : tie.Need-returns-2
 returns-2 c =
     let e = c .before .before .complex-answer .ensures in
-    (e, (rw (← e, ne-eqb _ 0 (c .if1 .left)), (rw (← e, ne-eqb _ 0 (c .if1 .left)), transforms)))
+    (e, (rw (← e, ne-eqb _ 0 (c .if1 .left)), (rw (← e, ne-eqb _ 0 (c .if1 .left)), (transforms, (on-shares-means, transform-words)))))
 
 pub complex-product-spec : {M : Type 1} → statement M
 complex-product-spec =

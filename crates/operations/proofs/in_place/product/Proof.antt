@@ -1,6 +1,6 @@
 -- `operations::in_place::product` meets its contract.
 use borrow.Author.Needs.{needs}
-use Rattle.operations.proofs.Masked.{with-masked}
+use Rattle.operations.proofs.Masked.{with-held}
 use Rattle.operations.proofs.in_place.product.Statement.{statement}
 use Rattle.operations.proofs.in_place.product.Tie as tie
 
@@ -11,4 +11,4 @@ product-spec =
     (λ c κs. search needs)
     (λ c. search needs)
     (λ c. search needs)
-    (λ c. with-masked (c .before .before .before .before .call .ensures)))
+    (λ c. with-held (c .before .before .before .before .call .ensures)))

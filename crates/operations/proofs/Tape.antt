@@ -1,5 +1,5 @@
--- The tape words that calls on shares report, from the figures of the plans' own words: a call that is done reports what it needs.
--- Rests on plans' Cost and BuiltIns, on complex' Tape and Called, and on checks' Passed.
+-- The tape words that the operations on shares report, from the figures of the plans' own words: a call that is done reports what it needs. Rests on
+-- plans' Cost and BuiltIns, and on checks' Passed.
 use mathlib.Core.Path.{_≡_, refl, ap, ap₂, _∙_}
 use mathlib.Core.Bool.{Bool, true, false, not, _&&_}
 use mathlib.Core.List.{List}
@@ -21,23 +21,19 @@ use Rattle.plans.specs.BuiltIns.{described, planOf}
 use Rattle.plans.proofs.BuiltIns.{built-ins}
 use Rattle.plans.proofs.Cost.{by-words}
 use Rattle.execution.specs.Shares.{answerFor, callAnswer}
-use Rattle.complex.specs.Calls.{complexTape, complexAnswer, layerTape, layerAnswer}
-use Rattle.complex.specs.Layer.{isLayer, blockCount}
-use Rattle.complex.proofs.Called.{answer-done}
-use Rattle.complex.proofs.Tape.{complex-units, layer-units}
-use Rattle.lubewon.specs.RandomWords.{Takes, RandomWords}
+use Rattle.operations.specs.RandomWords.{Takes, RandomWords}
 
 -- ---- an answer that is done is what stands after the turn-downs
-next-is : (b : Bool) (k : ℕ) (next : Answer) → (k ≡ 0 → ⊥) → given b (refused k) next .number ≡ 0 → given b (refused k) next ≡ next
+pub next-is : (b : Bool) (k : ℕ) (next : Answer) → (k ≡ 0 → ⊥) → given b (refused k) next .number ≡ 0 → given b (refused k) next ≡ next
 next-is true k next f z = absurd (f z)
 next-is false k next f z = refl
 
 -- turned down by 1 where the share count is none
-shares-are : (n : ℕ) (next : Answer) → given (not (isShareCount n)) (refused 1) next .number ≡ 0 → (2 ≤ n) × (n ≤ 8)
+pub shares-are : (n : ℕ) (next : Answer) → given (not (isShareCount n)) (refused 1) next .number ≡ 0 → (2 ≤ n) × (n ≤ 8)
 shares-are n next z = share-range n (not-false (isShareCount n) (passed (not (isShareCount n)) (refused 1) next (λ e. omega arith) z .0))
 
 -- three turn-downs before `done 0 needed`
-after-three : (b₁ b₂ b₃ : Bool) (k₁ k₂ k₃ needed : ℕ) → (k₁ ≡ 0 → ⊥) → (k₂ ≡ 0 → ⊥) → (k₃ ≡ 0 → ⊥)
+pub after-three : (b₁ b₂ b₃ : Bool) (k₁ k₂ k₃ needed : ℕ) → (k₁ ≡ 0 → ⊥) → (k₂ ≡ 0 → ⊥) → (k₃ ≡ 0 → ⊥)
     → given b₁ (refused k₁) (given b₂ (refused k₂) (given b₃ (refused k₃) (done 0 needed))) .number ≡ 0
     → given b₁ (refused k₁) (given b₂ (refused k₂) (given b₃ (refused k₃) (done 0 needed))) ≡ done 0 needed
 after-three true b₂ b₃ k₁ k₂ k₃ needed e f g z = absurd (e z)
@@ -53,29 +49,6 @@ operation-done needed n other result work tape z =
     let b₄ : Bool = not (eqb other n && (eqb result n && eqb work 512)) in
     let s = shares-are n (given b₄ (refused 4) (given (ltb tape needed) (refused 6) (done 0 needed))) z in
     (after-three b₁ b₄ (ltb tape needed) 1 4 6 needed (λ e. omega arith) (λ e. omega arith) (λ e. omega arith) z, s .0, s .1)
-
-complex-done : (n x y result work tape : ℕ) → complexAnswer n x y result work tape .number ≡ 0
-    → (complexAnswer n x y result work tape ≡ done 0 (complexTape n)) × (2 ≤ n) × (n ≤ 8)
-unfolding complexAnswer
-complex-done n x y result work tape z =
-    let b₁ : Bool = not (isShareCount n) in
-    let b₄ : Bool = not (eqb x (2 * n) && (eqb y (2 * n) && (eqb result (2 * n) && eqb work 512))) in
-    let b₆ : Bool = ltb tape (complexTape n) in
-    let s = shares-are n (given b₄ (refused 4) (given b₆ (refused 6) (done 0 (complexTape n)))) z in
-    (after-three b₁ b₄ b₆ 1 4 6 (complexTape n) (λ e. omega arith) (λ e. omega arith) (λ e. omega arith) z, s .0, s .1)
-
-layer-done : (n N h numbers factors work tape : ℕ) → layerAnswer n N h numbers factors work tape .number ≡ 0
-    → (layerAnswer n N h numbers factors work tape ≡ done 0 (layerTape n N)) × (2 ≤ n) × (n ≤ 8)
-unfolding layerAnswer
-layer-done n N h numbers factors work tape z =
-    let b₁ : Bool = not (isShareCount n) in
-    let b₇ : Bool = not (isLayer N h) in
-    let b₄ : Bool = not (eqb numbers (2 * N * n) && (eqb factors (2 * blockCount N h) && eqb work 512)) in
-    let b₆ : Bool = ltb tape (layerTape n N) in
-    let rest : Answer = given b₇ (refused 7) (given b₄ (refused 4) (given b₆ (refused 6) (done 0 (layerTape n N)))) in
-    let s = shares-are n rest z in
-    let p₁ = passed b₁ (refused 1) rest (λ e. omega arith) z in
-    (next-is b₁ 1 rest (λ e. omega arith) z ∙ after-three b₇ b₄ b₆ 7 4 6 (layerTape n N) (λ e. omega arith) (λ e. omega arith) (λ e. omega arith) (p₁ .1), s .0, s .1)
 
 -- ---- an answer that is not done reports 0
 after-two : (b₂ b₃ : Bool) (k₂ k₃ needed most : ℕ) → needed ≤ most → given b₂ (refused k₂) (given b₃ (refused k₃) (done 0 needed)) .tape ≤ most
@@ -95,19 +68,11 @@ below-most needed most n other result work tape h = go (isShareCount n) refl
     go false e = omega arith
 
 -- ---- an answer whose tests all pass
-complex-passes : (n x y result work tape : ℕ) → 2 ≤ n → n ≤ 8 → x ≡ 2 * n → y ≡ 2 * n → result ≡ 2 * n → work ≡ 512 → complexTape n ≤ tape
-    → complexAnswer n x y result work tape ≡ done 0 (complexTape n)
-unfolding complexAnswer
-complex-passes n x y result work tape least most ex ey er ew enough =
-    rw
-    (le-leb 2 n least, le-leb n 8 most, eq-eqb x (2 * n) ex, eq-eqb y (2 * n) ey, eq-eqb result (2 * n) er, eq-eqb work 512 ew, le-ltb tape (complexTape n) enough)
-
-layer-passes : (n N h numbers factors work tape : ℕ) → 2 ≤ n → n ≤ 8 → isLayer N h ≡ true → numbers ≡ 2 * N * n → factors ≡ 2 * blockCount N h → work ≡ 512 → layerTape n N ≤ tape
-    → layerAnswer n N h numbers factors work tape ≡ done 0 (layerTape n N)
-unfolding layerAnswer
-layer-passes n N h numbers factors work tape least most s en ef ew enough =
-    rw
-    (le-leb 2 n least, le-leb n 8 most, s, eq-eqb numbers (2 * N * n) en, eq-eqb factors (2 * blockCount N h) ef, eq-eqb work 512 ew, le-ltb tape (layerTape n N) enough)
+pub answer-done : (needed n other result work tape : ℕ) → 2 ≤ n → n ≤ 8 → other ≡ n → result ≡ n → work ≡ 512 → needed ≤ tape
+    → answerFor needed n other result work tape ≡ done 0 needed
+unfolding answerFor
+answer-done needed n other result work tape least most o r w enough =
+    rw (le-leb 2 n least, le-leb n 8 most, eq-eqb other n o, eq-eqb result n r, eq-eqb work 512 w, le-ltb tape needed enough)
 
 -- ---- an operation by its figures
 takes : (o : Operation) (ands ceiling : ℕ) → maskedAnds (planOf o) ≡ ands → T (leb ands ceiling) → described o .ands + 12 * described o .adds ≡ ands → Takes o ands ceiling
@@ -151,18 +116,4 @@ random-words =
       floor = takes Floor _ _ (counted Floor) tt refl;
       truncate = takes Truncate _ _ (counted Truncate) tt refl;
       nearest = takes Nearest _ _ (counted Nearest) tt refl;
-      complex =
-          λ n x y result work tape z. let d = complex-done n (length x) (length y) (length result) (length work) (length tape) z in
-          ap (λ (a : Answer). a .tape) (d .0) ∙ complex-units n (d .1) (d .2);
-      complex-shares = λ n x y result work tape z. let d = complex-done n (length x) (length y) (length result) (length work) (length tape) z in (d .1, d .2);
-      complex-enough =
-          λ n x y result work tape least most ex ey er ew fits. let u = complex-units n least most in
-          complex-passes n (length x) (length y) (length result) (length work) (length tape) least most ex ey er ew (le-trans (le-of-eq u) fits) ∙ ap (done 0) u;
-      layer =
-          λ n N h numbers factors work tape z. let d = layer-done n N h (length numbers) (length factors) (length work) (length tape) z in
-          ap (λ (a : Answer). a .tape) (d .0) ∙ layer-units n (d .1) (d .2) N;
-      layer-shares = λ n N h numbers factors work tape z. let d = layer-done n N h (length numbers) (length factors) (length work) (length tape) z in (d .1, d .2);
-      layer-enough =
-          λ n N h numbers factors work tape least most s en ef ew fits. let u = layer-units n least most N in
-          layer-passes n N h (length numbers) (length factors) (length work) (length tape) least most s en ef ew (le-trans (le-of-eq u) fits) ∙ ap (done 0) u;
     }
