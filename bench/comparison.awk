@@ -1,9 +1,11 @@
 # The library beside the C baselines, from bench/run's files `instructions` and `times`: the first table, or with -v targets=1 the ratios to
-# straight-line C beside their targets.
+# straight-line C, and of share run and Translate to the other C, beside their targets.
 BEGIN {
     FS = "|"
     target[2] = target[3] = 3
     target[8] = 1.5
+    decoded["share run, per word"] = 1.2
+    decoded["translate, per share word"] = 1.35
 }
 
 $1 == "count" { count[$2, $3, $4] = $6 / $5 }
@@ -58,7 +60,25 @@ function beside_targets(    r, key) {
     }
 }
 
+# Loops that take words apart: above its target the compiler no longer puts the taking apart into the loop, and the run fails.
+function of_decoding(    r, key, v, status) {
+    print "\n| library to other C | n | target | instructions | |"
+    print "|---|---|---|---|---|"
+    for (r = 1; r <= rows; r++) {
+        split(order[r], key, SUBSEP)
+        if (!(key[1] in decoded)) continue
+        v = count[order[r], "library"] / count[order[r], "base"]
+        printf "| %s | %s | %s | %.2f | %s |\n", key[1], key[2], decoded[key[1]], v, v <= decoded[key[1]] ? "met" : "not met"
+        if (v > decoded[key[1]]) {
+            print "bench: " key[1] " on " key[2] " shares is above its target: is the taking apart of words still put into its caller?" | "cat >&2"
+            status = 1
+        }
+    }
+    return status
+}
+
 END {
-    if (targets) beside_targets()
-    else comparison()
+    if (!targets) { comparison(); exit }
+    beside_targets()
+    exit of_decoding()
 }
