@@ -4,8 +4,9 @@
  * split into n shares, 2 to 8 words whose exclusive-or is the number, all but one of them random; which word is share i is its place in the
  * slice. Shares come from lubewon_split or from a call on shares; lubewon_join alone puts them together.
  *
- * ANSWERS. Every call answers every input. `number` is 0 for done, else the number of the turn-down, the first of these, from the top, that
- * applies (7 is newer than the others, and stands where it is looked at):
+ * ANSWERS. Every call answers every input whose slices are as SLICES below asks: nothing turns a NULL pointer or an overlap down. `number` is 0
+ * for done, else the number of the turn-down, the first of these, from the top, that applies (7 is newer than the others, and stands where it is
+ * looked at):
  *
  *   1  LUBEWON_SHARE_COUNT   share count not 2..8
  *   7  LUBEWON_WRONG_SIZE    a layer's count or distance is not a power of two, its count not 2..1,024, or its distance not below the count
@@ -23,6 +24,13 @@
  * that overlaps one, is undefined, and nothing turns it down. A result that shall replace an operand has calls of its own,
  * lubewon_product_in_place and those beside it. Slices that are only read may overlap.
  *
+ * COPIES. Copy a number's shares one word at a time, never by memcpy or by assigning a struct that holds them: compilers copy both through vector
+ * registers (gcc -O2 by movdqu), which then hold two shares of one number at once. A loop over volatile words is enough:
+ *
+ *   for (size_t i = 0; i < n; i++) ((volatile uint64_t *)to)[i] = ((const volatile uint64_t *)from)[i];
+ *
+ * On 2 shares a register that takes share 1 where share 0 was tells their change all the same: copy something else in between, or use 3 or more.
+ *
  * TAPE. The caller lends random words, used in order from the start (share runs: from tape_place on). They must be uniform, fresh for every
  * call, and never used twice, not by two calls and not by split and a call: two masks that are equal give the secret away. The answer's
  * `tape` says how many an operation or a share run used: the next call begins behind them. Split counts nothing in its answer and uses
@@ -30,8 +38,9 @@
  *
  * Calls keep no state and allocate nothing: they may run at once in several threads on slices of their own. They wipe neither stack (some
  * 1 KB) nor registers. No branch and no address depends on shares, cells, tape words or the operands of the plain operations: that is tested on
- * the x86-64 code of this build (tests/constant_time), not proved. For what a register's change may tell on 2 shares see docs/LEAKAGE.md: prefer
- * 3 or more.
+ * the x86-64 code of this build (tests/constant_time), not proved. Shifts and multiplications of secret words take part: in the plain operations, and in
+ * floor, truncation and nearest on shares, where a byte of each share is multiplied by 0x0101010101010101. Where a processor's multiplication takes
+ * time by its operands, that tells of a share. For what a register's change may tell on 2 shares see docs/LEAKAGE.md: prefer 3 or more.
  *
  * STEP WORDS. Bits 31..28 kind, bit 27 zero, bits 26..18 d, 17..9 a, 8..0 b. Each sets cell d:
  *
