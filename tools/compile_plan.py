@@ -3,7 +3,7 @@
 
 usage: compile_plan.py [--check] [NAME..]
 
-NAME is a section of tools/plans.ini, by default each; its crate, crates/straight_NAME, is written from the texts in tools/straight, or with --check
+NAME is a section of tools/plans.ini, by default each; its crate, crates/compiled_NAME, is written from the texts in tools/compiled, or with --check
 compared with what would be written. Each run of linear words between ANDs and ADDs becomes straight code on one share, an arm of a
 match on the run's number (plan_cut.py). The prover checks all of it, so that nothing here has to be trusted."""
 import configparser
@@ -14,7 +14,7 @@ import sys
 from plan_cut import ROOT, Plan, refuse
 from plan_text import parts
 
-TEXTS = os.path.join(ROOT, "tools", "straight")
+TEXTS = os.path.join(ROOT, "tools", "compiled")
 
 
 def texts(folder):
@@ -77,7 +77,7 @@ def sections():
 def left_over(config):
     """crates that the compiler wrote for sections that are gone"""
     crates = os.path.join(ROOT, "crates")
-    return [name for name in sorted(os.listdir(crates)) if name.startswith("straight_") and name[len("straight_"):] not in config]
+    return [name for name in sorted(os.listdir(crates)) if name.startswith("compiled_") and name[len("compiled_"):] not in config]
 
 
 def main(arguments):

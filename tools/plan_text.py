@@ -1,4 +1,4 @@
-"""The parts of a compiled plan's crate that depend on its words, for the texts in tools/straight: lists, arms of matches, and what the proof of a match says arm by arm."""
+"""The parts of a compiled plan's crate that depend on its words, for the texts in tools/compiled: lists, arms of matches, and what the proof of a match says arm by arm."""
 
 WRITTEN = "Written by tools/compile_plan.py: change the plan or the compiler, not this file."
 WIDTH = 100  # of a line of code, as rt fmt breaks it
@@ -12,7 +12,7 @@ def parts(plan):
         "PLAN": plan.plan, "UNFOLD": "".join(" " + name for name in plan.unfold), "UNFOLD_NAMES": "".join(", " + name for name in plan.unfold),
         "GATES": str(len(plan.gates)), "UNITS": str(plan.units), "WORDS": listed(plan.words),
         "PUB": "" if plan.operands == 1 else "pub ", "ZEROS": ", zerosFor" if plan.operands == 1 else "",
-        "ONE_OPERAND": "use execution::one_operand::NONE;\nuse execution::one_operand::at_most_eight;\n" if plan.operands == 1 else "",
+        "ONE_OPERAND": "use masked_call::one_operand::NONE;\nuse masked_call::one_operand::at_most_eight;\n" if plan.operands == 1 else "",
         "BELOW": f"(k < {len(plan.runs)}) × " if rows else "", "SHOW_BELOW": "omega arith, " if rows else "", "SIZE": "2" if rows else "1",
     } | gate_kind(plan) | lists(plan) | code(plan) | on_share_proof(plan) | gate_proof(plan)
 
@@ -22,8 +22,8 @@ def gate_kind(plan):
     if not plan.adds():
         return {"GATE_DONE": "and_done", "GATE_NAME": "and-done", "GATE_KIND": "(λ k. eqb k 3)", "KIND_USE": "", "KIND_EQB": "eqb, ",
                 "SHOW_KIND": "eqb→eq _ 3 (G .1)", "SHOW_USE": "use lib.Dec.{eqb→eq}\n", "GATE_MOD": "",
-                "GATE_USE": "use crate::runs::gate;\nuse crate::runs::run;\nuse blocks::gates::and_done;\n"}
-    return {"GATE_DONE": "gate_done", "GATE_NAME": "gate-done", "GATE_KIND": "isGate", "KIND_USE": "use Rattle.blocks.specs.PlanWords.{isGate}\n",
+                "GATE_USE": "use crate::runs::gate;\nuse crate::runs::run;\nuse gates::gates::and_done;\n"}
+    return {"GATE_DONE": "gate_done", "GATE_NAME": "gate-done", "GATE_KIND": "isGate", "KIND_USE": "use Rattle.gates.specs.inner.PlanWords.{isGate}\n",
             "KIND_EQB": "", "SHOW_KIND": "G .1", "SHOW_USE": "", "GATE_MOD": "mod gates;\n",
             "GATE_USE": "use crate::gates::gate_done;\nuse crate::runs::gate;\nuse crate::runs::run;\n"}
 
@@ -87,7 +87,7 @@ def code(plan):
     keyed = range(plan.alike, len(plan.gates)) if plan.rows else range(len(plan.gates) - 1)
     rest = plan.gates[0] if plan.rows else plan.gates[-1]
     gates = [f"        {k} => {hexed(plan.gates[k])}," for k in keyed] + [f"        _ => {hexed(rest)},"]
-    return {"USES": "\n".join(f"use straight::linear::{name};" for name in used), "ARMS": "\n".join(arms), "GATE_ARMS": "\n".join(gates)}
+    return {"USES": "\n".join(f"use compiled::linear::{name};" for name in used), "ARMS": "\n".join(arms), "GATE_ARMS": "\n".join(gates)}
 
 
 def arm_lines(plan, arm):
@@ -144,7 +144,7 @@ def shown(plan, arm, run, calls):
 
 
 def on_share_uses(plan):
-    spec, rows = "Rattle·@CRATE@·specs.specs.Runs", plan.rows
+    spec, rows = "Rattle·@CRATE@·specs.specs.inner.Runs", plan.rows
     single, numbered = any(arm.order for arm in plan.arms if arm is not rows), rows and rows.order
     uses = ["use mathlib.Core.Path.{_≡_, refl, ap, _∙_}"] if rows else ["use mathlib.Core.Path.{ap}"] if single else []
     uses += ["use mathlib.Core.List.{" + ("List, " if numbered else "") + "[], _∷_}"] if single or numbered else []
@@ -152,8 +152,8 @@ def on_share_uses(plan):
     uses += ["use denote.Ref.{now}"] if single or numbered else []
     uses += ["use lib.ListN.{getD}"] if rows or single else []
     uses += ["use borrow.Author.Needs.{needs}"]
-    uses += ["use Rattle.straight.proofs.Reorder.{" + ("at, " if numbered else "") + "in-order" + (", reorders" if numbered else "") + "}"] if single or numbered else []
-    uses += ["use Rattle.straight.proofs.Rest.{" + ("between, numbered" if rows else "past") + "}"]
+    uses += ["use Rattle.compiled.proofs.Reorder.{" + ("at, " if numbered else "") + "in-order" + (", reorders" if numbered else "") + "}"] if single or numbered else []
+    uses += ["use Rattle.compiled.proofs.Rest.{" + ("between, numbered" if rows else "past") + "}"]
     return "\n".join(uses + [f"use {spec}.{{" + ("after, first, lastRun, row, runs" if rows else "lastRun, runs") + "}"])
 
 
@@ -203,7 +203,7 @@ def gate_proof(plan):
         law, last = "between, equal", f"equal _ _ {plan.alike} _ (between 0 {plan.alike} {keyed} _ {rest} {below} .1)"
     else:
         law, last = "equal", f"equal _ _ {plan.alike} _ {below}"
-    return {"GATE_USES": f"use borrow.Author.Needs.{{needs}}\nuse Rattle.straight.proofs.Rest.{{{law}}}" if keyed else f"use Rattle.straight.proofs.Rest.{{{law}}}",
+    return {"GATE_USES": f"use borrow.Author.Needs.{{needs}}\nuse Rattle.compiled.proofs.Rest.{{{law}}}" if keyed else f"use Rattle.compiled.proofs.Rest.{{{law}}}",
             "GATE_ENDS": wrapped([SEARCH] * keyed + [f"(λ c. rw ({last}))"])}
 
 

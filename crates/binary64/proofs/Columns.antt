@@ -5,7 +5,7 @@ use Prim.Native.Nat.{ℕ, _+_, _-_, _*_, _/_, _%_, _^_, _≤_, _<_, min}
 use native.Mathlib.Nat.{le-of-lt, mul-le-mul}
 use native.Mathlib.Omega.{arith}
 use lib.Bits.{bitAnd, and-mask, mask-lt}
-use Rattle.binary64.specs.Steps.{jam}
+use Rattle.binary64.specs.inner.Steps.{jam}
 use Rattle.binary64.proofs.Jam.{jam-at}
 
 -- the low and the high half of a factor

@@ -12,7 +12,7 @@ use Rattle.bits.proofs.Digits.{digit}
 use Rattle.binary64.specs.Number.{sign, expo, frac, magnitude, signed}
 use Rattle.binary64.specs.Rounding.{magBits}
 use Rattle.binary64.specs.Whole.{multipleOf, wholeNumber, Dropped, DroppingLowBits}
-use Rattle.binary64.specs.Steps.{roundNE, packed}
+use Rattle.binary64.specs.inner.Steps.{roundNE, packed}
 use Rattle.binary64.proofs.Words.{magnitude-is}
 use Rattle.binary64.proofs.Round.{bits-over, bits-exact, round-scale}
 

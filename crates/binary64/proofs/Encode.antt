@@ -10,7 +10,7 @@ use lib.Count.{leadingZeros, leading-top}
 use lib.Pow.{pow-pos, pow-add, shl-lt}
 use lib.Ieee.Nearest.{closest-same}
 use Rattle.binary64.specs.Rounding.{magBits}
-use Rattle.binary64.specs.Steps.{roundNE, jam, packed, encodedAt, encoded}
+use Rattle.binary64.specs.inner.Steps.{roundNE, jam, packed, encodedAt, encoded}
 use Rattle.binary64.proofs.Cases.{lt-or-ge, if-lt, if-not-lt, pow-lt-back}
 use Rattle.binary64.proofs.Jam.{round-jam, jam-lt, jam-ge}
 use Rattle.binary64.proofs.Round.{limit, bits-under, bits-over, round-scale}

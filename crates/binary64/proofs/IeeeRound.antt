@@ -17,7 +17,7 @@ use lib.Ieee.Fits.{down-pos, kept-lt, round-is}
 use lib.Ieee.Nearest.{closest, closest-same, div-same}
 use Rattle.binary64.specs.Rounding.{roundedSignificand, magBits}
 use Rattle.binary64.specs.Ieee.{ZeroOrLarge}
-use Rattle.binary64.specs.Steps.{packed}
+use Rattle.binary64.specs.inner.Steps.{packed}
 use Rattle.binary64.proofs.Cases.{lt-or-ge, if-not-lt, pow-lt-back, size-gt, size-is}
 use Rattle.binary64.proofs.Round.{closest-up, closest-down, kept-ge, magBits-min, bits-zero}
 

@@ -9,7 +9,7 @@ use lib.Arith.{digits-div, digits-mod, digits-lt}
 use lib.Pow.{pow-pos, pow-add, shr-lt}
 use lib.Ieee.{nearest}
 use lib.Ieee.Nearest.{closest}
-use Rattle.binary64.specs.Steps.{roundNE, jam}
+use Rattle.binary64.specs.inner.Steps.{roundNE, jam}
 use Rattle.binary64.proofs.Cases.{agree, lt-or-ge}
 
 pub jam-is : (j N : ℕ) → jam j N ≡ 2 * (N / 2 ^ j) + min (N % 2 ^ j) 1

@@ -11,7 +11,7 @@ use lib.Ieee.Nearest.{closest}
 use Rattle.binary64.specs.Number.{expo, frac, magnitudeOf, magnitude, signed}
 use Rattle.binary64.specs.Rounding.{roundedSignificand, magBits}
 use Rattle.binary64.specs.Meaning.{distance, NearestEven, RoundingMeans}
-use Rattle.binary64.specs.Steps.{packed}
+use Rattle.binary64.specs.inner.Steps.{packed}
 use Rattle.binary64.proofs.Cases.{Cmp, cmp, lt-or-ge, if-not-lt, size-gt}
 use Rattle.binary64.proofs.Round.{significand-ge, significand-le, magBits-min}
 

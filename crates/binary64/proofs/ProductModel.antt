@@ -8,7 +8,7 @@ use native.Mathlib.Omega.{arith}
 use lib.Pow.{pow-pos, pow-add}
 use Rattle.binary64.specs.Number.{expo, frac, magnitudeOf, magnitude}
 use Rattle.binary64.specs.Rounding.{magBits}
-use Rattle.binary64.specs.Steps.{roundNE, jam, encoded}
+use Rattle.binary64.specs.inner.Steps.{roundNE, jam, encoded}
 use Rattle.binary64.proofs.Cases.{lt-or-ge}
 use Rattle.binary64.proofs.Jam.{jam-pos, jam-lt}
 use Rattle.binary64.proofs.Round.{bits-zero, bits-under, round-scale}

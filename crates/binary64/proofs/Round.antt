@@ -14,7 +14,7 @@ use lib.Ieee.Digits.{size-reaches}
 use lib.Ieee.Fits.{kept-lt, nearest-le}
 use lib.Ieee.Nearest.{closest, closest-same, nearest-ge}
 use Rattle.binary64.specs.Rounding.{roundedSignificand, roundedE, roundedF, limited, magBits}
-use Rattle.binary64.specs.Steps.{roundNE, packed}
+use Rattle.binary64.specs.inner.Steps.{roundNE, packed}
 use Rattle.binary64.proofs.Jam.{closest-by}
 use Rattle.binary64.proofs.Cases.{Cmp, cmp, lt-or-ge, if-lt, if-not-lt, if-le, if-not-le, if-eq, if-not-eq, size-gt, size-is}
 

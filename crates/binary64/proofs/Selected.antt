@@ -13,7 +13,7 @@ use lib.Pow.{pow-pos}
 use Rattle.binary64.specs.Number.{sign, expo, frac, magnitude, signed}
 use Rattle.binary64.specs.Rounding.{magBits}
 use Rattle.binary64.specs.Sum.{sum}
-use Rattle.binary64.specs.Steps.{roundNE, jam, packed, encodedAt, encoded, aligned}
+use Rattle.binary64.specs.inner.Steps.{roundNE, jam, packed, encodedAt, encoded, aligned}
 use Rattle.binary64.proofs.Cases.{lt-or-ge, if-lt, if-not-lt, if-le, if-not-le, if-eq, if-not-eq, if-some, if-none, by-lt, by-eq}
 use Rattle.binary64.proofs.Selecting.{same-sign}
 use Rattle.binary64.proofs.Jam.{jam-pos}

@@ -9,7 +9,7 @@ use lib.Pow.{pow-pos, pow-add}
 use Rattle.binary64.specs.Number.{sign, expo, frac, magnitudeOf, magnitude, signed}
 use Rattle.binary64.specs.Rounding.{magBits}
 use Rattle.binary64.specs.Sum.{sumOf, sum}
-use Rattle.binary64.specs.Steps.{jam, encoded, alignedOf, aligned}
+use Rattle.binary64.specs.inner.Steps.{jam, encoded, alignedOf, aligned}
 use Rattle.binary64.proofs.Words.{magnitude-zero}
 use Rattle.binary64.proofs.Cases.{lt-or-ge, if-lt, if-not-lt, if-eq, if-not-eq}
 use Rattle.binary64.proofs.Jam.{jam-le, jam-zero, jam-pos}

@@ -8,7 +8,7 @@ use native.Mathlib.Omega.{arith}
 use lib.Pow.{pow-pos, pow-add, pow-mono}
 use lib.Ieee.{size}
 use lib.Ieee.Digits.{size-lt, size-reaches}
-use Rattle.binary64.specs.Steps.{roundNE, jam}
+use Rattle.binary64.specs.inner.Steps.{roundNE, jam}
 use Rattle.binary64.proofs.Cases.{lt-or-ge, size-gt}
 use Rattle.binary64.proofs.Jam.{jam-pos, jam-le, jam-add, jam-sub, jam-exact}
 use Rattle.binary64.proofs.Round.{round-scale}

@@ -19,7 +19,7 @@ use Rattle.binary64.specs.Truncate.{truncate}
 use Rattle.binary64.specs.Nearest.{nearest}
 use Rattle.binary64.specs.Ieee.{towardZero, tiesToEven}
 use Rattle.binary64.specs.Meaning.{distance, TruncateMeans, NearestMeans}
-use Rattle.binary64.specs.Steps.{roundNE}
+use Rattle.binary64.specs.inner.Steps.{roundNE}
 use Rattle.binary64.proofs.Cases.{lt-or-ge, if-le, if-not-le}
 use Rattle.binary64.proofs.Words.{magnitude-below}
 use Rattle.binary64.proofs.Round.{bits-zero, bits-lt, round-none, closest-up}

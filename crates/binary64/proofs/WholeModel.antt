@@ -10,7 +10,7 @@ use Rattle.binary64.specs.Rounding.{magBits}
 use Rattle.binary64.specs.Whole.{wholeNumber, Dropped}
 use Rattle.binary64.specs.Truncate.{truncate}
 use Rattle.binary64.specs.Nearest.{nearest}
-use Rattle.binary64.specs.Steps.{roundNE}
+use Rattle.binary64.specs.inner.Steps.{roundNE}
 use Rattle.binary64.proofs.Cases.{if-le, if-not-le}
 use Rattle.binary64.proofs.Words.{magnitude-is, magnitude-below}
 use Rattle.binary64.proofs.Round.{bits-zero, round-scale, round-tie, first-dropped}

@@ -15,7 +15,7 @@ use Rattle.binary64.specs.Number.{sign, expo, frac, signed}
 use Rattle.binary64.specs.Floor.{floor}
 use Rattle.binary64.specs.Truncate.{truncate}
 use Rattle.binary64.specs.Nearest.{nearest}
-use Rattle.binary64.specs.Steps.{loweredBy, FractionOf, LastWholeOf}
+use Rattle.binary64.specs.inner.Steps.{loweredBy, FractionOf, LastWholeOf}
 use Rattle.binary64.proofs.Cases.{lt-or-ge, by-lt}
 use Rattle.binary64.proofs.Round.{half-added}
 use Rattle.binary64.proofs.FloorModel.{floor-large, floor-zero, floor-small-plus, floor-small-minus, floor-word}

@@ -16,4 +16,4 @@ pub mod Meaning
 pub mod Corners
 pub mod Edges
 pub mod Ieee
-pub mod Steps
+pub mod inner

@@ -9,7 +9,7 @@ use crate::select::kept;
 ghost use mathlib.Core.Path.{_≡_};
 ghost use Prim.Native.Nat.{_%_, _^_, _≤_, _<_};
 ghost use Rattle.binary64.specs.Sum.{sum};
-ghost use Rattle.binary64.specs.Steps.{jam, aligned};
+ghost use Rattle.binary64.specs.inner.Steps.{jam, aligned};
 
 // w shifted right by d places, doubled, with a sticky bit for the bits shifted out. From 63 places on all of them are.
 fn shift_jam(w: u64, d: u64) -> u64

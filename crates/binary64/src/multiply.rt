@@ -8,7 +8,7 @@ ghost use mathlib.Core.Path.{_≡_};
 ghost use Prim.Native.Nat.{_*_, _^_, _<_};
 ghost use Rattle.binary64.specs.Number.{magnitude};
 ghost use Rattle.binary64.specs.Rounding.{magBits};
-ghost use Rattle.binary64.specs.Steps.{jam};
+ghost use Rattle.binary64.specs.inner.Steps.{jam};
 
 // The product of two significands, which has up to 106 bits, without its low 51, and with a sticky bit for them.
 // Each factor is cut into halves of 32 bits, and the four products are added by columns.

@@ -5,7 +5,7 @@ ghost use mathlib.Core.Path.{_≡_};
 ghost use mathlib.Core.Bool.{cond};
 ghost use Prim.Native.Nat.{_+_, _*_, _^_, _≤_, min};
 ghost use lib.Dec.{eqb, ltb};
-ghost use Rattle.binary64.specs.Steps.{roundNE, encoded};
+ghost use Rattle.binary64.specs.inner.Steps.{roundNE, encoded};
 
 // 1 where a bit of x is set.
 pub fn sticky(x: u64) -> u64

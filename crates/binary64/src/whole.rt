@@ -9,7 +9,7 @@ ghost use Prim.Native.Nat.{_-_, _*_, _^_, _<_};
 ghost use lib.Bits.{bitAnd};
 ghost use lib.Dec.{ltb};
 ghost use Rattle.binary64.specs.Number.{sign, expo, signed};
-ghost use Rattle.binary64.specs.Steps.{loweredBy, FractionOf, LastWholeOf};
+ghost use Rattle.binary64.specs.inner.Steps.{loweredBy, FractionOf, LastWholeOf};
 
 // What is taken for a: `small` below 1, `between` below 2^52, and from there on, where every number is whole, a itself.
 pub fn by_range(a: u64, small: u64, between: u64) -> u64

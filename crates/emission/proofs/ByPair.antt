@@ -9,7 +9,7 @@ use Rattle.word.specs.Encoding.{put, wordOf}
 use Rattle.masking.specs.Translation.{Pair}
 use Rattle.emission.specs.declared.pairs.EachPair.{EachPair}
 use Rattle.emission.specs.declared.pairs.EachPair.the-variants.{Refresh, Products}
-use Rattle.emission.specs.Written.{pairSteps}
+use Rattle.emission.specs.inner.Written.{pairSteps}
 
 -- what pairs get, pair by pair
 pub pair-first : (k : EachPair) (p : Pair) (ps : List Pair) → pairSteps k (p ∷ ps) ≡ pairSteps k (p ∷ []) ++ pairSteps k ps

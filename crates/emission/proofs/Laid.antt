@@ -21,7 +21,7 @@ use Rattle.masking.proofs.emitted.Wiping.{wiping-shares}
 use Rattle.emission.specs.declared.emit.Cells.{Cells}
 use Rattle.emission.specs.declared.pairs.EachPair.the-variants.{Refresh, Products}
 use Rattle.emission.proofs.Parts.{as-steps}
-use Rattle.emission.specs.Written.{Words, Emits, Room, Fits, Register, cellsOn, cellsFor, eachWord, pairSteps, adderStep}
+use Rattle.emission.specs.inner.Written.{Words, Emits, Room, Fits, Register, cellsOn, cellsFor, eachWord, pairSteps, adderStep}
 
 -- ---- AND
 

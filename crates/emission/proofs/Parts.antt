@@ -9,7 +9,7 @@ use Rattle.word.specs.declared.step.Step.{Step}
 use Rattle.word.specs.Encoding.{wordOf}
 use Rattle.checks.proofs.Slices.{sets-append}
 use Rattle.masking.proofs.emitted.Steps.{map-append}
-use Rattle.emission.specs.Written.{Words, Emits, Room}
+use Rattle.emission.specs.inner.Written.{Words, Emits, Room}
 
 -- words written in two goes
 pub words-then : (xs ys : List ℕ) {out : List ℕ} {at : ℕ} {out' : List ℕ} {at' : ℕ} {out'' : List ℕ} {at'' : ℕ} → Words out at xs out' at' → Words out' at' ys out'' at''

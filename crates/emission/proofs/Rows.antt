@@ -9,7 +9,7 @@ use lib.Seq.{sets, length-sets}
 use Rattle.word.specs.Encoding.{put}
 use Rattle.masking.specs.Translation.{upFrom}
 use Rattle.emission.specs.declared.emit.Cells.{Cells}
-use Rattle.emission.specs.Written.{Words, rowOf, Rises, cellsOn, Fits, EachFits, eachFrom, eachWord}
+use Rattle.emission.specs.inner.Written.{Words, rowOf, Rises, cellsOn, Fits, EachFits, eachFrom, eachWord}
 
 -- ---- words
 

@@ -2,8 +2,8 @@
 ghost use Prim.Native.Nat.{_≤_, _<_};
 ghost use Rattle.masking.specs.Translation as translation;
 ghost use Rattle.masking.specs.Translation.{andBlock, andSteps, block, scratch, scratchCells};
-ghost use Rattle.emission.specs.Written as emission;
-ghost use Rattle.emission.specs.Written.{Emits, Fits, Register, Room, cellsOn};
+ghost use Rattle.emission.specs.inner.Written as emission;
+ghost use Rattle.emission.specs.inner.Written.{Emits, Fits, Register, Room, cellsOn};
 use crate::emit::Cells;
 use crate::emit::each_share;
 use crate::emit::put_word;

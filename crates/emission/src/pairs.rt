@@ -6,7 +6,7 @@ ghost use lib.ListN.{length};
 ghost use Rattle.word.specs.declared.step.Step.the-variants.{Xor, And};
 ghost use Rattle.word.specs.Encoding.{wordOf};
 ghost use Rattle.masking.specs.Translation.{pairs, pairsOf, shares, upFrom};
-ghost use Rattle.emission.specs.Written.{Emits, Fits, PairFits, Room, Words, cellsOn, pairSteps};
+ghost use Rattle.emission.specs.inner.Written.{Emits, Fits, PairFits, Room, Words, cellsOn, pairSteps};
 ghost use Rattle.emission.specs.declared.pairs.EachPair.the-variants.{Refresh, Products};
 use crate::emit::Cells;
 use crate::emit::put_word;

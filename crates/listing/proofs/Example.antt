@@ -6,7 +6,7 @@ use Rattle.masking.specs.Translation.{shareCell, translated}
 use Rattle.checks.specs.Answers.{planChecked}
 use Rattle.translation.specs.Calls.{planFor}
 use Rattle.listing.specs.Sharelist.{listAnswer, listing, ExampleListed}
-use Rattle.text.specs.Lines.{decimal, hexLine, firstLine, refusedLine}
+use Rattle.listing_lines.specs.Lines.{decimal, hexLine, firstLine, refusedLine}
 
 pub example : ExampleListed
 unfolding row named put lengthOf tapeOf shareCell translated planChecked planFor listAnswer decimal hexLine firstLine refusedLine listing

@@ -12,9 +12,9 @@ use lib.Seq.{drop-cons}
 use borrow.Author.Tests.{lt-ltb, le-ltb, ltb-false}
 use borrow.Rule.Slice.PartMut.{putMid}
 use Rattle.checks.proofs.Slices.{part-is, part-back}
-use Rattle.text.specs.Writing.{Wrote, Appends}
+use Rattle.listing_lines.specs.Writing.{Wrote, Appends}
 use Rattle.listing.specs.Pieces.{ListsPart, wordLines, linesOf, wordBytes, fitCount}
-use Rattle.text.proofs.Placed.{Left, start, renamed, part, whole, wrote, appended, appends-long}
+use Rattle.listing_lines.proofs.Placed.{Left, start, renamed, part, whole, wrote, appended, appends-long}
 use Rattle.listing.proofs.PlanWord.{lines-most}
 
 -- ---- how many words fit

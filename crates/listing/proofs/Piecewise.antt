@@ -15,11 +15,11 @@ use Rattle.checks.specs.Answers.{keptUnless}
 use Rattle.translation.specs.Calls.{measured}
 use Rattle.translation.proofs.Counted.{accepted}
 use Rattle.listing.specs.Sharelist.{listAnswer, countOf, planRead}
-use Rattle.text.specs.Lines.{firstLine, refusedLine}
-use Rattle.text.specs.Writing.{Wrote}
+use Rattle.listing_lines.specs.Lines.{firstLine, refusedLine}
+use Rattle.listing_lines.specs.Writing.{Wrote}
 use Rattle.listing.specs.Pieces.{ListsPart, ListsPiece, wordLines, linesOf, wordBytes, listedWords, headOf, pieceCount, pieceText, wordsListed, pieceNext, pieceLast, piecesFrom}
-use Rattle.text.proofs.Placed.{fits}
-use Rattle.text.proofs.Decimal.{decimal-most}
+use Rattle.listing_lines.proofs.Placed.{fits}
+use Rattle.listing_lines.proofs.Decimal.{decimal-most}
 use Rattle.listing.proofs.Answered.{taken}
 use Rattle.listing.proofs.PlanWord.{lines-most}
 use Rattle.listing.proofs.Parts.{fit-some, fitted-most}

@@ -20,9 +20,9 @@ use Rattle.masking.proofs.emitted.Counts.{plan-counts}
 use Rattle.translation.specs.Calls.{planFor, measured, measureAnswer, translateAnswer, translateOut}
 use Rattle.word.proofs.Small.{length-le}
 use Rattle.translation.proofs.Counted.{accepted, next-answer, turned-down}
-use Rattle.text.specs.Lines.{hexLines}
+use Rattle.listing_lines.specs.Lines.{hexLines}
 use Rattle.listing.specs.Pieces.{wordLines, wordBytes}
-use Rattle.text.proofs.Hex.{lines-length}
+use Rattle.listing_lines.proofs.Hex.{lines-length}
 
 -- a plan that is turned down has no counts
 no-words : (n : ℕ) (plan : List ℕ) → planFor n plan (refused 0) .words ≡ 0

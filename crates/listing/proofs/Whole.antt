@@ -17,9 +17,9 @@ use Rattle.checks.proofs.Checked.{plan-check}
 use Rattle.translation.specs.Calls.{planFor, measured, measureAnswer}
 use Rattle.translation.proofs.Counted.{accepted}
 use Rattle.listing.specs.Sharelist.{listAnswer, countOf, planRead, listing}
-use Rattle.text.specs.Lines.{hexLines, firstLine, refusedLine}
+use Rattle.listing_lines.specs.Lines.{hexLines, firstLine, refusedLine}
 use Rattle.listing.specs.Pieces.{linesOf, PiecesAreListing}
-use Rattle.text.proofs.Hex.{lines-append}
+use Rattle.listing_lines.proofs.Hex.{lines-append}
 use Rattle.listing.proofs.Answered.{taken}
 use Rattle.listing.proofs.PlanWord.{lines-of-good}
 use Rattle.listing.proofs.Piecewise.{listed-taken, listed-none, head-taken, head-refused, restFrom, pieces-whole}

@@ -7,8 +7,8 @@ use native.Mathlib.Omega.{arith}
 use lib.ListN.{length, drop, getD, set, length-drop}
 use lib.Seq.{getD-drop, drop-drop}
 use Rattle.listing.specs.Sharelist.{wordsOf, countOf, planRead}
-use Rattle.text.specs.Writing.{Appends}
-use Rattle.text.proofs.Placed.{Left, renamed, part, whole}
+use Rattle.listing_lines.specs.Writing.{Appends}
+use Rattle.listing_lines.proofs.Placed.{Left, renamed, part, whole}
 
 pub words-short : (l : List ℕ) → length l < 4 → wordsOf l ≡ []
 words-short [] h = refl

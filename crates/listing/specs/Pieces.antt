@@ -7,8 +7,8 @@ use lib.Dec.{leb, ltb, eqb}
 use lib.ListN.{length, take, drop}
 use Rattle.word.specs.Layout.{planMax, wordMax}
 use Rattle.checks.specs.Answers.{keptUnless}
-use Rattle.text.specs.Lines.{hexLines, firstLine, refusedLine}
-use Rattle.text.specs.Writing.{fitting, Wrote}
+use Rattle.listing_lines.specs.Lines.{hexLines, firstLine, refusedLine}
+use Rattle.listing_lines.specs.Writing.{fitting, Wrote}
 use Rattle.masking.specs.Translation.{program}
 use Rattle.translation.specs.Calls.{measureAnswer}
 use Rattle.listing.specs.Sharelist.{listAnswer, countOf, planRead, listing}

@@ -10,7 +10,7 @@ use Rattle.word.specs.Layout.{planMax, isShareCount}
 use Rattle.checks.specs.Answers.{refused, given}
 use Rattle.masking.specs.Translation.{program}
 use Rattle.translation.specs.Calls.{measureAnswer}
-use Rattle.text.specs.Lines.{hexLines, firstLine, refusedLine}
+use Rattle.listing_lines.specs.Lines.{hexLines, firstLine, refusedLine}
 
 -- "plan words, least byte first"
 abbrev pub wordsOf : List ℕ → List ℕ

@@ -2,7 +2,7 @@
 ghost use mathlib.Core.Path.{_≡_};
 ghost use Prim.Native.Nat.{_+_, _*_};
 ghost use Rattle.listing.specs.Sharelist.{countOf, listAnswer, planRead};
-ghost use Rattle.text.specs.Writing.{Wrote};
+ghost use Rattle.listing_lines.specs.Writing.{Wrote};
 use checks::answer::Answer;
 use checks::share_count::is_share_count;
 use translation::measure::measure;

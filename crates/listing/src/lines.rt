@@ -1,8 +1,8 @@
 // The lines of plan words: those of each word's translation.
 ghost use Rattle.listing.specs.Pieces.{ListsPart, wordLines};
-ghost use Rattle.text.specs.Writing.{Wrote};
-use text::words::LINE;
-use text::words::hex_lines;
+ghost use Rattle.listing_lines.specs.Writing.{Wrote};
+use listing_lines::words::LINE;
+use listing_lines::words::hex_lines;
 use translation::translate::translate;
 use word::step_word::StepWord;
 

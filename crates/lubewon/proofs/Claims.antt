@@ -25,12 +25,12 @@ use Rattle.plans.proofs.BuiltIns as plans
 use Rattle.plans.proofs.product.Words as product
 use Rattle.operations.proofs.Masked as operations
 use Rattle.operations.proofs.Tape as tape
-use Rattle.splitting.proofs.SplitJoin as splitting
-use Rattle.complex.proofs.Holds as complex-numbers
-use Rattle.complex.proofs.Means as layer-meaning
-use Rattle.complex.proofs.OnShares as on-shares
-use Rattle.complex.proofs.RandomWords as transform-tape
-use Rattle.complex.proofs.Examples as worked-complex
+use Rattle.split_join.proofs.SplitJoin as splitting
+use Rattle.fft_numbers.proofs.Holds as complex-numbers
+use Rattle.fft_numbers.proofs.Means as layer-meaning
+use Rattle.fft_numbers.proofs.OnShares as on-shares
+use Rattle.fft_numbers.proofs.RandomWords as transform-tape
+use Rattle.fft_numbers.proofs.Examples as worked-complex
 use Rattle.listing.proofs.Whole as listing
 use Rattle.listing.proofs.Example as listed
 use Rattle.lubewon.specs.Claims.{Claims}

@@ -3,8 +3,8 @@ use mathlib.Core.Path.{refl}
 use Rattle.word.specs.Encoding.{row, named}
 use Rattle.checks.specs.Answers.{planChecked, programChecked}
 use Rattle.translation.specs.Calls.{planFor}
-use Rattle.complex.specs.Layer.{isLayer}
-use Rattle.complex.specs.Calls.{layerAnswer}
+use Rattle.fft_numbers.specs.Layer.{isLayer}
+use Rattle.fft_numbers.specs.Calls.{layerAnswer}
 use Rattle.lubewon.specs.TurnDowns.{TurnDowns}
 
 pub turn-downs : TurnDowns

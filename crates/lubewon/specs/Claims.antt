@@ -24,11 +24,11 @@ use Rattle.plans.specs.BuiltIns.{BuiltIns}
 use Rattle.plans.specs.ProductRows.{ByRows}
 use Rattle.operations.specs.Masked.{Masked}
 use Rattle.operations.specs.RandomWords.{RandomWords}
-use Rattle.splitting.specs.SplitJoin.{SplitJoins}
-use Rattle.complex.specs.Holds.{Transforms}
-use Rattle.complex.specs.Means.{LayerMeans, OnSharesMeans}
-use Rattle.complex.specs.RandomWords.{TransformWords}
-use Rattle.complex.specs.Examples.{ComplexExamples}
+use Rattle.split_join.specs.SplitJoin.{SplitJoins}
+use Rattle.fft_numbers.specs.Holds.{Transforms}
+use Rattle.fft_numbers.specs.Means.{LayerMeans, OnSharesMeans}
+use Rattle.fft_numbers.specs.RandomWords.{TransformWords}
+use Rattle.fft_numbers.specs.Examples.{ComplexExamples}
 use Rattle.listing.specs.Sharelist.{ExampleListed}
 use Rattle.listing.specs.Pieces.{PiecesAreListing}
 use Rattle.lubewon.specs.TurnDowns.{TurnDowns}

@@ -7,7 +7,7 @@ use lib.ListN.{replicate}
 use Rattle.checks.specs.Answers.{refused, badAt}
 use Rattle.masking.specs.Runs.{standing, runAnswer, stepAnswer}
 use Rattle.translation.specs.Calls.{measureAnswer}
-use Rattle.complex.specs.Calls.{layerAnswer}
+use Rattle.fft_numbers.specs.Calls.{layerAnswer}
 
 -- XOR 2 0 1
 abbrev pub xorWord : ℕ

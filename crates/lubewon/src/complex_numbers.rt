@@ -1,13 +1,13 @@
 // Complex numbers for C: the product and one layer of the transform, on shares and on plain words. What holds of those on shares is `Transforms`; what they
 // come to, `LayerMeans` and `OnSharesMeans`; how many tape words they report, `TransformWords`.
 ghost use mathlib.Core.Path.{_≡_};
-ghost use Rattle.complex.specs.Calls.{complexCallAnswer, complexResult, complexWork, layerCallAnswer, layerNumbers, layerWork, plainCallAnswer, plainNumbers};
-ghost use Rattle.complex.specs.Complex.{complexIm, complexRe};
-ghost use Rattle.complex.specs.Holds.{Transforms};
-ghost use Rattle.complex.specs.Means.{LayerMeans, OnSharesMeans};
-ghost use Rattle.complex.specs.RandomWords.{TransformWords};
+ghost use Rattle.fft_numbers.specs.Calls.{complexCallAnswer, complexResult, complexWork, layerCallAnswer, layerNumbers, layerWork, plainCallAnswer, plainNumbers};
+ghost use Rattle.fft_numbers.specs.Complex.{complexIm, complexRe};
+ghost use Rattle.fft_numbers.specs.Holds.{Transforms};
+ghost use Rattle.fft_numbers.specs.Means.{LayerMeans, OnSharesMeans};
+ghost use Rattle.fft_numbers.specs.RandomWords.{TransformWords};
 use checks::answer::Answer;
-use complex::Complex;
+use fft_numbers::Complex;
 
 // The product of a + bi and c + di.
 #[no_mangle]
@@ -15,7 +15,7 @@ pub extern "C" fn lubewon_complex_product(a: u64, b: u64, c: u64, d: u64) -> Com
     ensures re { λ r. ⌜ r .re ≡ complexRe a b c d ⌝ }
     ensures im { λ r. ⌜ r .im ≡ complexIm a b c d ⌝ }
 {
-    complex::product(a, b, c, d)
+    fft_numbers::product(a, b, c, d)
 }
 
 // One layer over `count` complex numbers at `distance`, in place.
@@ -30,7 +30,7 @@ pub extern "C" fn lubewon_layer(
     ensures numbers { λ _. ⌜ now (numbers .exit) ≡ plainNumbers count distance (now (numbers .entry)) (now (factors .entry)) ⌝ }
     ensures holds { λ _. ⌜ LayerMeans ⌝ }
 {
-    complex::layer(count, distance, numbers, factors)
+    fft_numbers::layer(count, distance, numbers, factors)
 }
 
 // The product of complex numbers on n shares; `work` has 512 words and is zeros afterwards.
@@ -50,7 +50,7 @@ pub extern "C" fn lubewon_complex_product_shares(
     ensures means { λ _. ⌜ OnSharesMeans ⌝ }
     ensures words { λ _. ⌜ TransformWords ⌝ }
 {
-    transform::complex_product(n, x, y, result, work, tape)
+    fft_layer::complex_product(n, x, y, result, work, tape)
 }
 
 // One layer over `count` complex numbers on n shares at `distance`, in place, likewise.
@@ -72,5 +72,5 @@ pub extern "C" fn lubewon_layer_shares(
     ensures means { λ _. ⌜ OnSharesMeans ⌝ }
     ensures words { λ _. ⌜ TransformWords ⌝ }
 {
-    transform::layer(n, count, distance, numbers, factors, work, tape)
+    fft_layer::layer(n, count, distance, numbers, factors, work, tape)
 }

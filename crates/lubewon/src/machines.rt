@@ -30,7 +30,7 @@ pub extern "C" fn lubewon_share_run(
     ensures cells { λ _. ⌜ now (cells .exit) ≡ runCells (now (program .entry)) (now (tape .entry)) (standing (now (cells .entry)) place «tape_place») budget ⌝ }
     ensures holds { λ _. ⌜ Demand3Holds ⌝ }
 {
-    running::run::share_run(program, place, tape, tape_place, budget, cells)
+    share_run::run::share_run(program, place, tape, tape_place, budget, cells)
 }
 
 // Runs a single word of a share program.
@@ -44,5 +44,5 @@ pub extern "C" fn lubewon_one_share_step(
     ensures answer { λ r. ⌜ r ≡ stepAnswer word (now (tape .entry)) (now (cells .entry)) «tape_place» ⌝ }
     ensures cells { λ _. ⌜ now (cells .exit) ≡ stepCells word (now (tape .entry)) (now (cells .entry)) «tape_place» ⌝ }
 {
-    running::run::one_share_step(word, tape, tape_place, cells)
+    share_run::run::one_share_step(word, tape, tape_place, cells)
 }

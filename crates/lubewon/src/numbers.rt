@@ -6,12 +6,12 @@ ghost use Rattle.binary64.specs.Floor as floor-spec;
 ghost use Rattle.binary64.specs.Truncate as truncate-spec;
 ghost use Rattle.binary64.specs.Nearest as nearest-spec;
 ghost use Rattle.plans.specs.BuiltIns.{BuiltIns};
-ghost use Rattle.tables.specs.Copy.{copyAnswer, copyOut};
-ghost use Rattle.plans.specs.ProductPlan.{productPlan};
-ghost use Rattle.plans.specs.SumPlan.{sumPlan};
-ghost use Rattle.plans.specs.FloorPlan.{floorPlan};
-ghost use Rattle.plans.specs.TruncatePlan.{truncatePlan};
-ghost use Rattle.plans.specs.NearestPlan.{nearestPlan};
+ghost use Rattle.plan_copy.specs.Copy.{copyAnswer, copyOut};
+ghost use Rattle.plans.specs.words.ProductPlan.{productPlan};
+ghost use Rattle.plans.specs.words.SumPlan.{sumPlan};
+ghost use Rattle.plans.specs.words.FloorPlan.{floorPlan};
+ghost use Rattle.plans.specs.words.TruncatePlan.{truncatePlan};
+ghost use Rattle.plans.specs.words.NearestPlan.{nearestPlan};
 use checks::answer::Answer;
 
 // The product of two words as numbers.
@@ -60,7 +60,7 @@ pub extern "C" fn lubewon_copy_product_plan(out: &mut [u32]) -> Answer
     ensures { λ r. ⌜ (r ≡ copyAnswer productPlan (now (out .entry))) × (now (out .exit) ≡ copyOut productPlan (now (out .entry))) ⌝ }
     ensures holds { λ _. ⌜ BuiltIns ⌝ }
 {
-    tables::copy_product(out)
+    plan_copy::copy_product(out)
 }
 
 #[no_mangle]
@@ -68,7 +68,7 @@ pub extern "C" fn lubewon_copy_sum_plan(out: &mut [u32]) -> Answer
     ensures { λ r. ⌜ (r ≡ copyAnswer sumPlan (now (out .entry))) × (now (out .exit) ≡ copyOut sumPlan (now (out .entry))) ⌝ }
     ensures holds { λ _. ⌜ BuiltIns ⌝ }
 {
-    tables::copy_sum(out)
+    plan_copy::copy_sum(out)
 }
 
 #[no_mangle]
@@ -76,7 +76,7 @@ pub extern "C" fn lubewon_copy_floor_plan(out: &mut [u32]) -> Answer
     ensures { λ r. ⌜ (r ≡ copyAnswer floorPlan (now (out .entry))) × (now (out .exit) ≡ copyOut floorPlan (now (out .entry))) ⌝ }
     ensures holds { λ _. ⌜ BuiltIns ⌝ }
 {
-    tables::copy_floor(out)
+    plan_copy::copy_floor(out)
 }
 
 #[no_mangle]
@@ -84,7 +84,7 @@ pub extern "C" fn lubewon_copy_truncate_plan(out: &mut [u32]) -> Answer
     ensures { λ r. ⌜ (r ≡ copyAnswer truncatePlan (now (out .entry))) × (now (out .exit) ≡ copyOut truncatePlan (now (out .entry))) ⌝ }
     ensures holds { λ _. ⌜ BuiltIns ⌝ }
 {
-    tables::copy_truncate(out)
+    plan_copy::copy_truncate(out)
 }
 
 #[no_mangle]
@@ -92,5 +92,5 @@ pub extern "C" fn lubewon_copy_nearest_plan(out: &mut [u32]) -> Answer
     ensures { λ r. ⌜ (r ≡ copyAnswer nearestPlan (now (out .entry))) × (now (out .exit) ≡ copyOut nearestPlan (now (out .entry))) ⌝ }
     ensures holds { λ _. ⌜ BuiltIns ⌝ }
 {
-    tables::copy_nearest(out)
+    plan_copy::copy_nearest(out)
 }

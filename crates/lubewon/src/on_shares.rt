@@ -1,13 +1,13 @@
 // The operations on shares for C. What holds of them is `Masked`; how many tape words they report, `RandomWords`.
 ghost use mathlib.Core.Path.{_≡_};
-ghost use Rattle.plans.specs.ProductPlan.{productPlan};
-ghost use Rattle.plans.specs.SumPlan.{sumPlan};
-ghost use Rattle.plans.specs.FloorPlan.{floorPlan};
-ghost use Rattle.plans.specs.TruncatePlan.{truncatePlan};
-ghost use Rattle.plans.specs.NearestPlan.{nearestPlan};
+ghost use Rattle.plans.specs.words.ProductPlan.{productPlan};
+ghost use Rattle.plans.specs.words.SumPlan.{sumPlan};
+ghost use Rattle.plans.specs.words.FloorPlan.{floorPlan};
+ghost use Rattle.plans.specs.words.TruncatePlan.{truncatePlan};
+ghost use Rattle.plans.specs.words.NearestPlan.{nearestPlan};
 ghost use Rattle.operations.specs.Masked.{Masked};
 ghost use Rattle.operations.specs.RandomWords.{RandomWords};
-ghost use Rattle.execution.specs.Shares.{callAnswer, resultAfter, workAfter, zerosFor};
+ghost use Rattle.masked_call.specs.Shares.{callAnswer, resultAfter, workAfter, zerosFor};
 use checks::answer::Answer;
 
 // The product of shared operands; `work` has 512 words and is zeros afterwards.

@@ -1,9 +1,9 @@
 // Split and join for C. What holds of them is `SplitJoins`.
 ghost use mathlib.Core.Path.{_≡_};
 ghost use lib.ListN.{length};
-ghost use Rattle.splitting.specs.SplitJoin.{joinAnswer, joinedWord, splitAnswer, splitOut, SplitJoins};
+ghost use Rattle.split_join.specs.SplitJoin.{joinAnswer, joinedWord, splitAnswer, splitOut, SplitJoins};
 use checks::answer::Answer;
-use splitting::Joined;
+use split_join::Joined;
 
 // Splits a word into as many shares as `out` has words.
 #[no_mangle]
@@ -12,7 +12,7 @@ pub extern "C" fn lubewon_split(word: u64, tape: &[u64], out: &mut [u64]) -> Ans
     ensures out { λ _. ⌜ now (out .exit) ≡ splitOut word (now (tape .entry)) (now (out .entry)) ⌝ }
     ensures holds { λ _. ⌜ SplitJoins ⌝ }
 {
-    splitting::split(word, tape, out)
+    split_join::split(word, tape, out)
 }
 
 // Joins shares to their word, 0 when turned down.
@@ -22,5 +22,5 @@ pub extern "C" fn lubewon_join(shares: &[u64]) -> Joined
     ensures word { λ r. ⌜ r .word ≡ joinedWord (now (shares .entry)) ⌝ }
     ensures holds { λ _. ⌜ SplitJoins ⌝ }
 {
-    splitting::join(shares)
+    split_join::join(shares)
 }

@@ -4,9 +4,9 @@ use mathlib.Core.List.{List}
 use Prim.Native.Nat.{ℕ}
 use lib.ListN.{length}
 use borrow.Author.Tests.{eq-eqb}
-use Rattle.execution.specs.Shares.{callAnswer}
+use Rattle.masked_call.specs.Shares.{callAnswer}
 use Rattle.operations.specs.Masked.{Joins, CallJoins}
-use Rattle.execution.proofs.Answering.{ready}
+use Rattle.masked_call.proofs.Answering.{ready}
 
 pub call-joins : (plan : List ℕ) (op : ℕ → ℕ → ℕ) → Joins plan op → CallJoins plan op
 call-joins plan op joins x y result work tape wx wy wt e =

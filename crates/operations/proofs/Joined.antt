@@ -24,10 +24,10 @@ use Rattle.masking.proofs.joined.Beside.{exec-words}
 use Rattle.masking.proofs.joined.Plan.{joined-after}
 use Rattle.masking.proofs.joined.Sums.{sum-lt}
 use Rattle.plans.specs.Computes.{Computes}
-use Rattle.execution.specs.Shares.{placed, finished, resultShares}
-use Rattle.splitting.specs.SplitJoin.{xorAll}
+use Rattle.masked_call.specs.Shares.{placed, finished, resultShares}
+use Rattle.split_join.specs.SplitJoin.{xorAll}
 use Rattle.operations.specs.Masked.{Operand, Joins}
-use Rattle.execution.proofs.Plans.{finished-is}
+use Rattle.masked_call.proofs.Plans.{finished-is}
 use Rattle.operations.proofs.Placed.{placed-start, joins-0, joins-1}
 
 -- the exclusive-or of a list over share numbers

@@ -10,9 +10,9 @@ use Rattle.plans.specs.BuiltIns.{described, planOf}
 use Rattle.plans.proofs.BuiltIns.{built-ins}
 use Rattle.operations.specs.Masked.{AnyStart, OnShares, Masked}
 use Rattle.operations.specs.RandomWords.{RandomWords}
-use Rattle.execution.specs.Inner.{GoodPlan}
-use Rattle.execution.proofs.Plans.{runs-whole}
-use Rattle.execution.proofs.Known.{uncleared-steps}
+use Rattle.masked_call.specs.inner.Inner.{GoodPlan}
+use Rattle.masked_call.proofs.Plans.{runs-whole}
+use Rattle.masked_call.proofs.Known.{uncleared-steps}
 use Rattle.operations.proofs.Joined.{accepted, plan-joins}
 use Rattle.operations.proofs.CallJoined.{call-joins}
 use Rattle.operations.proofs.Secret.{operation-secret}

@@ -1,4 +1,4 @@
--- The work slice at the start: operands of at most eight words in registers 0 and 1, over any cells and over zeros. Rests on plain's Laws (stores keep words), masking's Sums and execution's Filling.
+-- The work slice at the start: operands of at most eight words in registers 0 and 1, over any cells and over zeros. Rests on plain's Laws (stores keep words), masking's Sums and masked_call's Filling.
 use mathlib.Core.Path.{_≡_, refl, sym, ap, ap₂, _∙_}
 use mathlib.Core.List.{List, [], _∷_}
 use Prim.Native.Nat.{ℕ, zero, suc, _+_, _≤_, _<_}
@@ -16,9 +16,9 @@ use Rattle.masking.specs.Unsplit.{xorOver, joined}
 use Rattle.masking.specs.Secrecy.{Agree}
 use Rattle.plain.proofs.Laws.{set-words}
 use Rattle.masking.proofs.joined.Sums.{sum-same}
-use Rattle.execution.proofs.Filling.{placed-size, placed-other, placed-share}
-use Rattle.execution.specs.Shares.{placedIn, placed, placedOver}
-use Rattle.splitting.specs.SplitJoin.{xorAll}
+use Rattle.masked_call.proofs.Filling.{placed-size, placed-other, placed-share}
+use Rattle.masked_call.specs.Shares.{placedIn, placed, placedOver}
+use Rattle.split_join.specs.SplitJoin.{xorAll}
 
 -- ---- exclusive-ors of n words
 shares-from : (x : List ℕ) (s c : ℕ) (f : ℕ → ℕ) → length x ≤ c → ((j : ℕ) → f (s + j) ≡ getD x j 0) → xorOver f (upFrom s c) ≡ xorAll x

@@ -11,7 +11,7 @@ use Rattle.masking.proofs.secret.Secret.{step-secret}
 use Rattle.masking.proofs.secret.SecretRuns.{hidden}
 use Rattle.masking.proofs.Demand3.{runs-after}
 use Rattle.plans.specs.Computes.{Computes}
-use Rattle.execution.specs.Shares.{placed, placedOver}
+use Rattle.masked_call.specs.Shares.{placed, placedOver}
 use Rattle.operations.specs.Masked.{AnyStart, Operand, Secretive, StepSecret}
 use Rattle.operations.proofs.Placed.{over-start, placed-start, placed-agree, zeros-start}
 use Rattle.operations.proofs.Joined.{accepted}

@@ -20,7 +20,7 @@ use Rattle.plans.specs.Cost.{maskedAnds}
 use Rattle.plans.specs.BuiltIns.{described, planOf}
 use Rattle.plans.proofs.BuiltIns.{built-ins}
 use Rattle.plans.proofs.Cost.{by-words}
-use Rattle.execution.specs.Shares.{answerFor, callAnswer}
+use Rattle.masked_call.specs.Shares.{answerFor, callAnswer}
 use Rattle.operations.specs.RandomWords.{Takes, RandomWords}
 
 -- ---- an answer that is done is what stands after the turn-downs

@@ -11,9 +11,9 @@ use Rattle.masking.specs.Reads.{stepWord}
 use Rattle.masking.specs.Secrecy.{Hidden}
 use Rattle.binary64.specs.Operations.{Operation, onWords}
 use Rattle.plans.specs.BuiltIns.{planOf}
-use Rattle.splitting.specs.SplitJoin.{xorAll}
-use Rattle.execution.specs.Shares.{placed, placedOver, resultShares, callAnswer, resultAfter}
-use Rattle.execution.specs.WholeRun.{RunsWhole}
+use Rattle.split_join.specs.SplitJoin.{xorAll}
+use Rattle.masked_call.specs.Shares.{placed, placedOver, resultShares, callAnswer, resultAfter}
+use Rattle.masked_call.specs.WholeRun.{RunsWhole}
 
 -- n shares
 pub record Operand (n : ℕ) (x : List ℕ) : Type 0 where

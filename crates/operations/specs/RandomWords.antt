@@ -1,6 +1,6 @@
 -- How many random words the operations on shares take: document 02, No. 6, "For every n from 2 to 8, product uses at most 1,000·n(n−1) tape words,
 -- sum at most 600·n(n−1), floor at most 400·n(n−1). .. Prove it from the plans' own words and the foretold count." What a call reports is what the
--- share run that defines its result draws: `masked`, its `run` (execution/specs/WholeRun). Complex product and layer are in complex/specs/RandomWords,
+-- share run that defines its result draws: `masked`, its `run` (masked_call/specs/WholeRun). Complex product and layer are in fft_numbers/specs/RandomWords,
 -- and split's n − 1 words are apart.
 use mathlib.Core.Path.{_≡_}
 use mathlib.Core.List.{List}
@@ -11,10 +11,10 @@ use Rattle.masking.specs.Foretold.{foretoldTape}
 use Rattle.binary64.specs.Operations.{Operation, Product, Sum, Floor, Truncate, Nearest}
 use Rattle.plans.specs.BuiltIns.{planOf}
 use Rattle.plans.specs.Cost.{maskedAnds}
-use Rattle.execution.specs.Shares.{callAnswer}
+use Rattle.masked_call.specs.Shares.{callAnswer}
 
 -- An operation whose plan has `ands` masked ANDs, each n(n−1) tape words, where `ceiling` times n(n−1) are allowed. A call with one operand is the case of zeros for the second, a call in
--- place that of the first operand for the result (execution/specs/Shares).
+-- place that of the first operand for the result (masked_call/specs/Shares).
 pub record Takes (o : Operation) (ands ceiling : ℕ) : Type 0 where
   -- "the plans' own words"
   pub counted : maskedAnds (planOf o) ≡ ands

@@ -1,13 +1,13 @@
 // The operations on shares that replace their first operand: each is the call of `lib` whose result slice is that operand.
 ghost use mathlib.Core.Path.{_≡_};
-ghost use Rattle.plans.specs.ProductPlan.{productPlan};
-ghost use Rattle.plans.specs.SumPlan.{sumPlan};
-ghost use Rattle.plans.specs.FloorPlan.{floorPlan};
-ghost use Rattle.plans.specs.TruncatePlan.{truncatePlan};
-ghost use Rattle.plans.specs.NearestPlan.{nearestPlan};
+ghost use Rattle.plans.specs.words.ProductPlan.{productPlan};
+ghost use Rattle.plans.specs.words.SumPlan.{sumPlan};
+ghost use Rattle.plans.specs.words.FloorPlan.{floorPlan};
+ghost use Rattle.plans.specs.words.TruncatePlan.{truncatePlan};
+ghost use Rattle.plans.specs.words.NearestPlan.{nearestPlan};
 ghost use Rattle.operations.specs.Masked.{Masked};
 ghost use Rattle.operations.specs.RandomWords.{RandomWords};
-ghost use Rattle.execution.specs.Shares.{callAnswer, resultAfter, workAfter, zerosFor};
+ghost use Rattle.masked_call.specs.Shares.{callAnswer, resultAfter, workAfter, zerosFor};
 use checks::answer::Answer;
 
 // The product of shared operands x and y: its shares in x. Turned down with 1 where the shares are not 2 to 8, 4 where y or `work` has the wrong
@@ -19,7 +19,7 @@ pub fn product(x: &mut [u64], y: &[u64], work: &mut [u64], tape: &[u64]) -> Answ
     ensures holds { λ _. ⌜ Masked ⌝ }
     ensures words { λ _. ⌜ RandomWords ⌝ }
 {
-    straight_product::in_place::call(x, y, work, tape)
+    compiled_product::in_place::call(x, y, work, tape)
 }
 
 // The sum of shared operands x and y, likewise.
@@ -30,7 +30,7 @@ pub fn sum(x: &mut [u64], y: &[u64], work: &mut [u64], tape: &[u64]) -> Answer
     ensures holds { λ _. ⌜ Masked ⌝ }
     ensures words { λ _. ⌜ RandomWords ⌝ }
 {
-    straight_sum::in_place::call(x, y, work, tape)
+    compiled_sum::in_place::call(x, y, work, tape)
 }
 
 // The floor of a shared operand x, likewise.
@@ -41,7 +41,7 @@ pub fn floor(x: &mut [u64], work: &mut [u64], tape: &[u64]) -> Answer
     ensures holds { λ _. ⌜ Masked ⌝ }
     ensures words { λ _. ⌜ RandomWords ⌝ }
 {
-    straight_floor::in_place::call_of_one(x, work, tape)
+    compiled_floor::in_place::call_of_one(x, work, tape)
 }
 
 // The truncation of a shared operand x, likewise.
@@ -52,7 +52,7 @@ pub fn truncate(x: &mut [u64], work: &mut [u64], tape: &[u64]) -> Answer
     ensures holds { λ _. ⌜ Masked ⌝ }
     ensures words { λ _. ⌜ RandomWords ⌝ }
 {
-    straight_truncate::in_place::call_of_one(x, work, tape)
+    compiled_truncate::in_place::call_of_one(x, work, tape)
 }
 
 // The whole number nearest to a shared operand x, likewise.
@@ -63,5 +63,5 @@ pub fn nearest(x: &mut [u64], work: &mut [u64], tape: &[u64]) -> Answer
     ensures holds { λ _. ⌜ Masked ⌝ }
     ensures words { λ _. ⌜ RandomWords ⌝ }
 {
-    straight_nearest::in_place::call_of_one(x, work, tape)
+    compiled_nearest::in_place::call_of_one(x, work, tape)
 }

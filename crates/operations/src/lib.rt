@@ -1,14 +1,14 @@
-// The operations on shares: the call over each compiled plan. The contracts cite the definitions of `execution`, and what holds of them in
+// The operations on shares: the call over each compiled plan. The contracts cite the definitions of `masked_call`, and what holds of them in
 // `specs/`.
 ghost use mathlib.Core.Path.{_≡_};
-ghost use Rattle.plans.specs.ProductPlan.{productPlan};
-ghost use Rattle.plans.specs.SumPlan.{sumPlan};
-ghost use Rattle.plans.specs.FloorPlan.{floorPlan};
-ghost use Rattle.plans.specs.TruncatePlan.{truncatePlan};
-ghost use Rattle.plans.specs.NearestPlan.{nearestPlan};
+ghost use Rattle.plans.specs.words.ProductPlan.{productPlan};
+ghost use Rattle.plans.specs.words.SumPlan.{sumPlan};
+ghost use Rattle.plans.specs.words.FloorPlan.{floorPlan};
+ghost use Rattle.plans.specs.words.TruncatePlan.{truncatePlan};
+ghost use Rattle.plans.specs.words.NearestPlan.{nearestPlan};
 ghost use Rattle.operations.specs.Masked.{Masked};
 ghost use Rattle.operations.specs.RandomWords.{RandomWords};
-ghost use Rattle.execution.specs.Shares.{callAnswer, resultAfter, workAfter, zerosFor};
+ghost use Rattle.masked_call.specs.Shares.{callAnswer, resultAfter, workAfter, zerosFor};
 use checks::answer::Answer;
 
 pub mod in_place;
@@ -22,7 +22,7 @@ pub fn product(x: &[u64], y: &[u64], result: &mut [u64], work: &mut [u64], tape:
     ensures holds { λ _. ⌜ Masked ⌝ }
     ensures words { λ _. ⌜ RandomWords ⌝ }
 {
-    straight_product::calls::call(x, y, result, work, tape)
+    compiled_product::calls::call(x, y, result, work, tape)
 }
 
 // The sum of shared operands x and y, likewise.
@@ -33,7 +33,7 @@ pub fn sum(x: &[u64], y: &[u64], result: &mut [u64], work: &mut [u64], tape: &[u
     ensures holds { λ _. ⌜ Masked ⌝ }
     ensures words { λ _. ⌜ RandomWords ⌝ }
 {
-    straight_sum::calls::call(x, y, result, work, tape)
+    compiled_sum::calls::call(x, y, result, work, tape)
 }
 
 // The floor of a shared operand x, likewise.
@@ -44,7 +44,7 @@ pub fn floor(x: &[u64], result: &mut [u64], work: &mut [u64], tape: &[u64]) -> A
     ensures holds { λ _. ⌜ Masked ⌝ }
     ensures words { λ _. ⌜ RandomWords ⌝ }
 {
-    straight_floor::calls::call_of_one(x, result, work, tape)
+    compiled_floor::calls::call_of_one(x, result, work, tape)
 }
 
 // The truncation of a shared operand x, likewise.
@@ -55,7 +55,7 @@ pub fn truncate(x: &[u64], result: &mut [u64], work: &mut [u64], tape: &[u64]) -
     ensures holds { λ _. ⌜ Masked ⌝ }
     ensures words { λ _. ⌜ RandomWords ⌝ }
 {
-    straight_truncate::calls::call_of_one(x, result, work, tape)
+    compiled_truncate::calls::call_of_one(x, result, work, tape)
 }
 
 // The whole number nearest to a shared operand x, likewise.
@@ -66,5 +66,5 @@ pub fn nearest(x: &[u64], result: &mut [u64], work: &mut [u64], tape: &[u64]) ->
     ensures holds { λ _. ⌜ Masked ⌝ }
     ensures words { λ _. ⌜ RandomWords ⌝ }
 {
-    straight_nearest::calls::call_of_one(x, result, work, tape)
+    compiled_nearest::calls::call_of_one(x, result, work, tape)
 }

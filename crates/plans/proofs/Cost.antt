@@ -17,11 +17,11 @@ use Rattle.plans.proofs.Tests.{every, each}
 use Rattle.binary64.specs.Operations.{Product, Sum, Floor, Truncate, Nearest}
 use Rattle.plans.specs.Cost.{Figures, ofKind, maskedAnds}
 use Rattle.plans.specs.BuiltIns.{Described, described}
-use Rattle.plans.specs.ProductPlan.{productHead, carryRow, productRow, productRows, lastRows, productEnd, productTail, productSteps, productPlan}
-use Rattle.plans.specs.SumPlan.{sumPlan}
-use Rattle.plans.specs.FloorPlan.{floorPlan}
-use Rattle.plans.specs.TruncatePlan.{truncatePlan}
-use Rattle.plans.specs.NearestPlan.{nearestPlan}
+use Rattle.plans.specs.words.ProductPlan.{productHead, carryRow, productRow, productRows, lastRows, productEnd, productTail, productSteps, productPlan}
+use Rattle.plans.specs.words.SumPlan.{sumPlan}
+use Rattle.plans.specs.words.FloorPlan.{floorPlan}
+use Rattle.plans.specs.words.TruncatePlan.{truncatePlan}
+use Rattle.plans.specs.words.NearestPlan.{nearestPlan}
 
 -- what a word of kind k takes from the tape, in units of 2Q
 abbrev unitsOf : ℕ → ℕ

@@ -3,7 +3,7 @@
 use mathlib.Core.Path.{_≡_, ap, _∙_}
 use Prim.Native.Nat.{ℕ, suc, _+_, _-_, _*_, _%_, _^_, _<_, min}
 use native.Mathlib.Omega.{arith}
-use Rattle.binary64.specs.Steps.{roundNE}
+use Rattle.binary64.specs.inner.Steps.{roundNE}
 use Rattle.binary64.proofs.Round as Round
 use Rattle.plans.proofs.Lanes.{isZero}
 

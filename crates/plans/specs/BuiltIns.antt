@@ -6,11 +6,11 @@ use Rattle.masking.specs.Reads.{readsOnly}
 use Rattle.binary64.specs.Operations.{Operation, Product, Sum, Floor, Truncate, Nearest, onWords}
 use Rattle.plans.specs.Computes.{Computes}
 use Rattle.plans.specs.Cost.{Figures}
-use Rattle.plans.specs.ProductPlan.{productPlan}
-use Rattle.plans.specs.SumPlan.{sumPlan}
-use Rattle.plans.specs.FloorPlan.{floorPlan}
-use Rattle.plans.specs.TruncatePlan.{truncatePlan}
-use Rattle.plans.specs.NearestPlan.{nearestPlan}
+use Rattle.plans.specs.words.ProductPlan.{productPlan}
+use Rattle.plans.specs.words.SumPlan.{sumPlan}
+use Rattle.plans.specs.words.FloorPlan.{floorPlan}
+use Rattle.plans.specs.words.TruncatePlan.{truncatePlan}
+use Rattle.plans.specs.words.NearestPlan.{nearestPlan}
 
 -- an operation's plan, the registers that hold operands, and its words, with ANDs and ADDs among them
 pub record Described : Type 0 where

@@ -2,16 +2,7 @@
 -- number share (Decoder), a run of ones found (RunOfOnes), one added by it (RoundUp), a sum's carries with its run of ones (CarryRun); the product's words
 -- from the number of a row (ProductRows); what they cost (Cost), and what is proved of each (BuiltIns).
 pub mod Computes
-pub mod Segments
-pub mod Decoder
-pub mod RunOfOnes
-pub mod RoundUp
-pub mod CarryRun
-pub mod ProductPlan
 pub mod ProductRows
-pub mod SumPlan
-pub mod FloorPlan
-pub mod TruncatePlan
-pub mod NearestPlan
 pub mod Cost
 pub mod BuiltIns
+pub mod words

@@ -7,7 +7,7 @@ use Prim.Native.Nat.{ℕ, _+_, _-_, _*_, _/_, _%_, _≤_, _<_}
 use lib.Dec.{ltb, eqb}
 use lib.ListN.{length, getD, set}
 use Rattle.word.specs.Encoding.{wordOf}
-use Rattle.plans.specs.ProductPlan.{productHead, productRow, rowCount, productRows, productTail, productPlan}
+use Rattle.plans.specs.words.ProductPlan.{productHead, productRow, rowCount, productRows, productTail, productPlan}
 
 unfoldable pub headWords : List ℕ
 headWords = map wordOf productHead

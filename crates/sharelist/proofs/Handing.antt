@@ -7,8 +7,8 @@ use Prim.Native.Nat.{ℕ, suc, _+_, _-_, _*_, _≤_, _<_}
 use native.Mathlib.Omega.{arith}
 use lib.ListN.{length, take, drop, length-take, length-drop, length-append}
 use lib.Seq.{take-at, drop-at, drop-drop}
-use Rattle.text.specs.Writing.{Wrote}
-use Rattle.text.proofs.Placed.{all-given, all-taken}
+use Rattle.listing_lines.specs.Writing.{Wrote}
+use Rattle.listing_lines.proofs.Placed.{all-given, all-taken}
 use Rattle.listing.specs.Sharelist.{listing}
 use Rattle.listing.specs.Pieces.{ListsPiece, wordBytes, pieceText, pieceNext, pieceLast}
 use Rattle.listing.proofs.Piecewise.{piece-most, restFrom, rest-on, rest-none, rest-most}

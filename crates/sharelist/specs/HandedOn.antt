@@ -11,7 +11,7 @@ use lib.IntN.{ℤ, pos}
 abbrev pub standardOutput : ℤ
 standardOutput = pos 1
 
--- `text` is what stands in `listed` right behind its first `sent` bytes
+-- `listing_lines` is what stands in `listed` right behind its first `sent` bytes
 abbrev pub Follows : List ℕ → ℕ → List ℕ → Type 0
 Follows listed sent text = take (length text) (drop sent listed) ≡ text
 

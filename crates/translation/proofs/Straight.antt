@@ -21,8 +21,8 @@ use Rattle.masking.specs.Translation.{scratch, upFrom, shareCell, shareStep, bl
 use Rattle.masking.proofs.emitted.Places.{share-register}
 use Rattle.masking.proofs.emitted.Steps.{taken-kind}
 use Rattle.emission.specs.declared.emit.Cells.{Cells}
-use Rattle.translation.specs.Inner.{PlanWord}
-use Rattle.emission.specs.Written.{rowOf, cellsOn, Fits, EachFits}
+use Rattle.translation.specs.inner.Inner.{PlanWord}
+use Rattle.emission.specs.inner.Written.{rowOf, cellsOn, Fits, EachFits}
 use Rattle.emission.proofs.Rows.{row-length, each-row}
 use Rattle.emission.proofs.Laid.{fixed, fixed-fits, stays}
 

@@ -2,4 +2,4 @@
 -- name that only inner functions cite.
 pub mod Calls
 pub mod Tied
-pub mod Inner
+pub mod inner

@@ -6,7 +6,7 @@ ghost use Rattle.word.specs.declared.step.Step.the-variants.{Add, And};
 ghost use Rattle.word.specs.declared.step.Decoded.the-variants.{Good};
 ghost use Rattle.word.specs.Encoding.{planStep};
 ghost use Rattle.masking.specs.Translation.{wordsFor};
-ghost use Rattle.emission.specs.Written.{Words};
+ghost use Rattle.emission.specs.inner.Written.{Words};
 use emission::blocks::adding;
 use emission::blocks::and_block;
 use emission::emit::Cells;

@@ -14,19 +14,19 @@ use Rattle.binary64.specs.Product.{product}
 use Rattle.binary64.specs.Sum.{sum}
 use Rattle.binary64.specs.Operations.{Operation}
 use Rattle.plans.specs.BuiltIns.{planOf}
-use Rattle.plans.specs.ProductPlan.{productPlan}
-use Rattle.plans.specs.SumPlan.{sumPlan}
-use Rattle.execution.specs.Shares.{placed, resultShares, callAnswer, resultAfter}
+use Rattle.plans.specs.words.ProductPlan.{productPlan}
+use Rattle.plans.specs.words.SumPlan.{sumPlan}
+use Rattle.masked_call.specs.Shares.{placed, resultShares, callAnswer, resultAfter}
 use Rattle.operations.specs.Masked.{Operand}
-use Rattle.splitting.specs.SplitJoin.{xorAll}
-use Rattle.complex.specs.Acts.{Act, Put, Flip, Load, Store, Call, Slots, flipped, runPlain, plainShares, flippedFirst, tapeFor, runShares}
-use Rattle.complex.specs.Complex.{complexActs}
-use Rattle.complex.specs.Layer.{isLayer, pairActs, layerActs}
-use Rattle.complex.specs.Layout.{numberOf, joinedWords}
-use Rattle.complex.specs.Calls.{complexTape, complexStart, complexCallAnswer, complexResult, layerTape, layerStart, layerCallAnswer, layerNumbers, layerShares, layerWords, plainCallAnswer, plainNumbers}
-use Rattle.complex.specs.Secrecy.{Shared, AgreeIn, PutsWords, CallHidden, StepOfCalls}
-use Rattle.complex.specs.Holds.{joinedSlots, AsCalled, OperandsAgree, ComplexSecret, ComplexHolds, LayerSecret, LayerHolds, Transforms}
-use Rattle.complex.specs.Means.{PairBecomes, LayerMeans, PairOnShares, ComplexComesTo, PairComesTo, OnSharesMeans}
+use Rattle.split_join.specs.SplitJoin.{xorAll}
+use Rattle.fft_numbers.specs.Acts.{Act, Put, Flip, Load, Store, Call, Slots, flipped, runPlain, plainShares, flippedFirst, tapeFor, runShares}
+use Rattle.fft_numbers.specs.Complex.{complexActs}
+use Rattle.fft_numbers.specs.Layer.{isLayer, pairActs, layerActs}
+use Rattle.fft_numbers.specs.Layout.{numberOf, joinedWords}
+use Rattle.fft_numbers.specs.Calls.{complexTape, complexStart, complexCallAnswer, complexResult, layerTape, layerStart, layerCallAnswer, layerNumbers, layerShares, layerWords, plainCallAnswer, plainNumbers}
+use Rattle.fft_numbers.specs.Secrecy.{Shared, AgreeIn, PutsWords, CallHidden, StepOfCalls}
+use Rattle.fft_numbers.specs.Holds.{joinedSlots, AsCalled, OperandsAgree, ComplexSecret, ComplexHolds, LayerSecret, LayerHolds, Transforms}
+use Rattle.fft_numbers.specs.Means.{PairBecomes, LayerMeans, PairOnShares, ComplexComesTo, PairComesTo, OnSharesMeans}
 use Rattle.lubewon.specs.Claims.{Claims}
 use Rattle.lubewon.proofs.stated.Conditions.{AllWords}
 

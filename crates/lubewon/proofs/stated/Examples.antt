@@ -16,13 +16,13 @@ use Rattle.masking.specs.Machine.{randsOf}
 use Rattle.masking.specs.Runs.{standing, runAnswer, stepAnswer}
 use Rattle.masking.specs.Examples.{TranslationExamples}
 use Rattle.translation.specs.Calls.{measureAnswer}
-use Rattle.splitting.specs.SplitJoin.{xorAll}
-use Rattle.complex.specs.Acts.{plainShares, flipped, flippedFirst}
-use Rattle.complex.specs.Complex.{complexRe, complexIm}
-use Rattle.complex.specs.Layer.{isLayer, pairActs, placeOf, pairOf}
-use Rattle.complex.specs.Layout.{numberOf, asWords}
-use Rattle.complex.specs.Calls.{layerAnswer, layerWords}
-use Rattle.complex.specs.Examples.{ComplexExamples}
+use Rattle.split_join.specs.SplitJoin.{xorAll}
+use Rattle.fft_numbers.specs.Acts.{plainShares, flipped, flippedFirst}
+use Rattle.fft_numbers.specs.Complex.{complexRe, complexIm}
+use Rattle.fft_numbers.specs.Layer.{isLayer, pairActs, placeOf, pairOf}
+use Rattle.fft_numbers.specs.Layout.{numberOf, asWords}
+use Rattle.fft_numbers.specs.Calls.{layerAnswer, layerWords}
+use Rattle.fft_numbers.specs.Examples.{ComplexExamples}
 use Rattle.listing.specs.Sharelist.{listing}
 use Rattle.listing.specs.Pieces.{piecesFrom}
 use Rattle.lubewon.specs.Claims.{Claims}

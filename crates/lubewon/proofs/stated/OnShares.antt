@@ -17,15 +17,15 @@ use Rattle.binary64.specs.Truncate.{truncate}
 use Rattle.binary64.specs.Nearest.{nearest}
 use Rattle.binary64.specs.Operations.{Operation, Product, Sum, Floor, Truncate, Nearest, onWords}
 use Rattle.plans.specs.BuiltIns.{planOf}
-use Rattle.plans.specs.ProductPlan.{productPlan}
-use Rattle.plans.specs.SumPlan.{sumPlan}
-use Rattle.plans.specs.FloorPlan.{floorPlan}
-use Rattle.plans.specs.TruncatePlan.{truncatePlan}
-use Rattle.plans.specs.NearestPlan.{nearestPlan}
-use Rattle.execution.specs.Shares.{callAnswer, placed, placedOver, resultAfter, resultShares}
-use Rattle.execution.specs.WholeRun.{WholeRun}
+use Rattle.plans.specs.words.ProductPlan.{productPlan}
+use Rattle.plans.specs.words.SumPlan.{sumPlan}
+use Rattle.plans.specs.words.FloorPlan.{floorPlan}
+use Rattle.plans.specs.words.TruncatePlan.{truncatePlan}
+use Rattle.plans.specs.words.NearestPlan.{nearestPlan}
+use Rattle.masked_call.specs.Shares.{callAnswer, placed, placedOver, resultAfter, resultShares}
+use Rattle.masked_call.specs.WholeRun.{WholeRun}
 use Rattle.operations.specs.Masked.{Operand, StepSecret, OnShares}
-use Rattle.splitting.specs.SplitJoin.{xorAll, splitOf, splitAnswer, splitOut, joinedWord, SplitJoins}
+use Rattle.split_join.specs.SplitJoin.{xorAll, splitOf, splitAnswer, splitOut, joinedWord, SplitJoins}
 use Rattle.lubewon.specs.Claims.{Claims}
 use Rattle.lubewon.proofs.stated.Conditions.{AllWords}
 

@@ -21,12 +21,12 @@ use Rattle.binary64.specs.Operations.{Operation, Product, Sum, Floor, Truncate,
 use Rattle.plans.specs.Computes.{Computes}
 use Rattle.plans.specs.Cost.{ofKind, Figures}
 use Rattle.plans.specs.BuiltIns.{described, planOf, BuiltIn}
-use Rattle.plans.specs.ProductPlan.{rowCount, productPlan}
+use Rattle.plans.specs.words.ProductPlan.{rowCount, productPlan}
 use Rattle.plans.specs.ProductRows.{headWords, rowWords, wordsOfRows, tailWords, productWord, tableWords, ByRows}
-use Rattle.plans.specs.SumPlan.{sumPlan}
-use Rattle.plans.specs.FloorPlan.{floorPlan}
-use Rattle.plans.specs.TruncatePlan.{truncatePlan}
-use Rattle.plans.specs.NearestPlan.{nearestPlan}
+use Rattle.plans.specs.words.SumPlan.{sumPlan}
+use Rattle.plans.specs.words.FloorPlan.{floorPlan}
+use Rattle.plans.specs.words.TruncatePlan.{truncatePlan}
+use Rattle.plans.specs.words.NearestPlan.{nearestPlan}
 use Rattle.lubewon.specs.Claims.{Claims}
 use Rattle.lubewon.proofs.stated.Conditions.{AllWords}
 

@@ -10,11 +10,11 @@ use Rattle.masking.specs.Foretold.{foretoldTape}
 use Rattle.binary64.specs.Operations.{Operation, Product, Sum, Floor, Truncate, Nearest}
 use Rattle.plans.specs.BuiltIns.{planOf}
 use Rattle.plans.specs.Cost.{ofKind}
-use Rattle.execution.specs.Shares.{callAnswer}
-use Rattle.complex.specs.Layer.{isLayer}
-use Rattle.complex.specs.Calls.{complexCallAnswer, layerCallAnswer}
+use Rattle.masked_call.specs.Shares.{callAnswer}
+use Rattle.fft_numbers.specs.Layer.{isLayer}
+use Rattle.fft_numbers.specs.Calls.{complexCallAnswer, layerCallAnswer}
 use Rattle.operations.specs.RandomWords.{Takes, RandomWords}
-use Rattle.complex.specs.RandomWords.{TransformWords}
+use Rattle.fft_numbers.specs.RandomWords.{TransformWords}
 use Rattle.lubewon.specs.Claims.{Claims}
 
 -- k times n(n−1)

@@ -21,7 +21,7 @@ use Rattle.binary64.specs.Floor.{floor}
 use Rattle.binary64.proofs.Cases.{lt-or-ge, if-eq, if-not-eq}
 use Rattle.binary64.proofs.FloorModel.{floor-large, floor-zero, floor-small-plus, floor-small-minus, floor-word}
 use Rattle.plans.specs.Computes.{Computes}
-use Rattle.plans.specs.FloorPlan.{floorSteps, floorPlan}
+use Rattle.plans.specs.words.FloorPlan.{floorSteps, floorPlan}
 use Rattle.plans.proofs.Registers.{runSteps, tab}
 use Rattle.plans.proofs.Modelled.{wellFormed, plan-computes}
 use Rattle.plans.proofs.Fields.{low-bits, low-lt}

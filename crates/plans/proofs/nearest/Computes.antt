@@ -14,7 +14,7 @@ use Rattle.binary64.specs.Nearest.{nearest}
 use Rattle.binary64.proofs.Cases.{lt-or-ge, if-eq, if-not-eq}
 use Rattle.binary64.proofs.WholeModel.{nearest-large, nearest-small, nearest-half, nearest-between}
 use Rattle.plans.specs.Computes.{Computes}
-use Rattle.plans.specs.NearestPlan.{nearestSteps, nearestPlan}
+use Rattle.plans.specs.words.NearestPlan.{nearestSteps, nearestPlan}
 use Rattle.plans.proofs.Registers.{runSteps, tab}
 use Rattle.plans.proofs.Modelled.{wellFormed, plan-computes}
 use Rattle.plans.proofs.RunOfOnes.{stageAnd, nextF, nextN, runOf, orOf}

@@ -7,7 +7,7 @@ use native.Mathlib.Omega.{arith}
 use lib.Pow.{pow-pos, pow-add}
 use Rattle.binary64.specs.Number.{magnitudeOf}
 use Rattle.binary64.specs.Rounding.{magBits}
-use Rattle.binary64.specs.Steps.{roundNE, packed}
+use Rattle.binary64.specs.inner.Steps.{roundNE, packed}
 use Rattle.binary64.proofs.Round.{bits-zero, bits-under, bits-over, round-scale}
 
 -- ---- a zero among the operands

@@ -9,10 +9,10 @@ use lib.ListN.{length, getD}
 use lib.Pow.{pow-pos}
 use Rattle.binary64.specs.Product.{product}
 use Rattle.plans.specs.Computes.{Computes}
-use Rattle.plans.specs.Segments.{zeroTests}
-use Rattle.plans.specs.CarryRun.{addWithRun, carryStep, pairedStep}
-use Rattle.plans.specs.ProductPlan.{productHead, carryRow, productRow, productRows, withExponents, lastRows, productEnd, productTail, productSteps, productPlan}
-use Rattle.plans.specs.ProductPlan.{highHalf, bitFactors, fold32, bitFactorsAgain, fold16, tests, bitProducts, roundSteps, ranges, normalise, choose}
+use Rattle.plans.specs.words.Segments.{zeroTests}
+use Rattle.plans.specs.words.CarryRun.{addWithRun, carryStep, pairedStep}
+use Rattle.plans.specs.words.ProductPlan.{productHead, carryRow, productRow, productRows, withExponents, lastRows, productEnd, productTail, productSteps, productPlan}
+use Rattle.plans.specs.words.ProductPlan.{highHalf, bitFactors, fold32, bitFactorsAgain, fold16, tests, bitProducts, roundSteps, ranges, normalise, choose}
 use Rattle.plans.proofs.Registers.{runSteps, run-append}
 use Rattle.plans.proofs.Modelled.{wellFormed, steps-compute}
 use Rattle.plans.proofs.product.High.{High, high-half}

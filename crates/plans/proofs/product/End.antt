@@ -6,9 +6,9 @@ use Prim.Native.Nat.{ℕ}
 use lib.ListN.{length, getD}
 use Rattle.bits.specs.Ops.{xorW, andW, notW, shlW, shrW, spreadW}
 use Rattle.plain.specs.Machine.{stepped}
-use Rattle.plans.specs.Segments.{zeroTests}
-use Rattle.plans.specs.CarryRun.{addWithRun, carryStep, pairedStep}
-use Rattle.plans.specs.ProductPlan.{productEnd, highHalf, bitFactors, fold32, bitFactorsAgain, fold16, tests, bitProducts, roundSteps, ranges, normalise, choose}
+use Rattle.plans.specs.words.Segments.{zeroTests}
+use Rattle.plans.specs.words.CarryRun.{addWithRun, carryStep, pairedStep}
+use Rattle.plans.specs.words.ProductPlan.{productEnd, highHalf, bitFactors, fold32, bitFactorsAgain, fold16, tests, bitProducts, roundSteps, ranges, normalise, choose}
 use Rattle.plans.proofs.Registers.{runSteps, tab, tabbed}
 use Rattle.plans.proofs.Shifts.{lowest, exponentW}
 use Rattle.plans.proofs.Lanes.{zeros16}

@@ -14,7 +14,7 @@ use Rattle.binary64.specs.Number.{expo, frac}
 use Rattle.binary64.proofs.ProductModel.{frac-lt}
 use Rattle.word.specs.declared.step.Step.{Step}
 use Rattle.plain.specs.Machine.{stepped}
-use Rattle.plans.specs.ProductPlan.{productHead, carryRow, productRows, withExponents, lastRows}
+use Rattle.plans.specs.words.ProductPlan.{productHead, carryRow, productRows, withExponents, lastRows}
 use Rattle.plans.proofs.Registers.{runSteps, run-append, tab, tabbed}
 use Rattle.plans.proofs.Fields.{low-bits, pack}
 use Rattle.plans.proofs.Shifts.{not-is, exponent}

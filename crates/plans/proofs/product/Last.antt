@@ -11,7 +11,7 @@ use Rattle.bits.proofs.Digits.{digit, bit-lt}
 use Rattle.binary64.specs.Number.{expo, frac, signed, magnitudeOf, magnitude}
 use Rattle.binary64.specs.Rounding.{magBits}
 use Rattle.binary64.specs.Product.{product}
-use Rattle.binary64.specs.Steps.{roundNE, packed}
+use Rattle.binary64.specs.inner.Steps.{roundNE, packed}
 use Rattle.binary64.proofs.Cases.{lt-or-ge, if-lt, if-not-lt}
 use Rattle.binary64.proofs.Round.{closest-up, closest-down}
 use Rattle.plans.proofs.Lanes.{isZero, not-zero}

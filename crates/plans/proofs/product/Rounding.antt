@@ -5,7 +5,7 @@ use mathlib.Core.Logic.{inl, inr}
 use Prim.Native.Nat.{ℕ, suc, _+_, _-_, _*_, _%_, _^_, _<_}
 use native.Mathlib.Omega.{arith}
 use Rattle.bits.proofs.Digits.{digit}
-use Rattle.binary64.specs.Steps.{roundNE}
+use Rattle.binary64.specs.inner.Steps.{roundNE}
 use Rattle.binary64.proofs.Cases.{lt-or-ge}
 use Rattle.plans.proofs.Lanes.{isZero}
 use Rattle.plans.proofs.RoundTie.{round-tie}

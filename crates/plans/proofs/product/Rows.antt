@@ -13,7 +13,7 @@ use Rattle.bits.proofs.Xor.{xor-zero-l}
 use Rattle.bits.proofs.Places.{shr-is}
 use Rattle.binary64.proofs.ProductModel.{frac-lt}
 use Rattle.plain.specs.Machine.{stepped}
-use Rattle.plans.specs.ProductPlan.{carryRow, productRow, productRows}
+use Rattle.plans.specs.words.ProductPlan.{carryRow, productRow, productRows}
 use Rattle.plans.proofs.Registers.{runSteps, run-append, tab, tabbed}
 use Rattle.plans.proofs.product.Operands.{signif, comple}
 use Rattle.plans.proofs.Fields.{spread-run}

@@ -8,7 +8,7 @@ use lib.Dec.{T, eqb, eqb→eq}
 use lib.ListN.{length, getD, set, drop}
 use borrow.Author.Tests.{lt-ltb, le-ltb}
 use Rattle.word.specs.Encoding.{put, wordOf}
-use Rattle.plans.specs.ProductPlan.{productHead, carryRow, productRow, rowCount, productRows, lastRows, productEnd, productTail, productSteps, productPlan}
+use Rattle.plans.specs.words.ProductPlan.{productHead, carryRow, productRow, rowCount, productRows, lastRows, productEnd, productTail, productSteps, productPlan}
 use Rattle.plans.specs.ProductRows.{headWords, rowWords, wordsOfRows, tailWords, wordInRow, headEnd, rowLength, rowsEnd, productWord, ByRows}
 use Rattle.plans.proofs.Tests.{every, each}
 

@@ -13,7 +13,7 @@ use Rattle.bits.proofs.Parity.{xor-shifted}
 use Rattle.bits.proofs.Places.{shr-is}
 use Rattle.binary64.specs.Number.{sign, expo, frac, signed}
 use Rattle.binary64.specs.Sum.{sum}
-use Rattle.binary64.specs.Steps.{aligned, encodedAt, encoded}
+use Rattle.binary64.specs.inner.Steps.{aligned, encodedAt, encoded}
 use Rattle.binary64.proofs.Cases.{lt-or-ge}
 use Rattle.binary64.proofs.Words.{sign-cases}
 use Rattle.binary64.proofs.Jam.{jam-is}

@@ -12,7 +12,7 @@ use Rattle.bits.proofs.Digits.{digit}
 use Rattle.bits.proofs.Bound.{xor-lt, shr-lt}
 use Rattle.bits.proofs.Places.{shr-is}
 use Rattle.binary64.specs.Number.{expo, signed}
-use Rattle.binary64.specs.Steps.{roundNE, packed, encodedAt, encoded}
+use Rattle.binary64.specs.inner.Steps.{roundNE, packed, encodedAt, encoded}
 use Rattle.binary64.proofs.Cases.{lt-or-ge, if-lt, if-not-lt}
 use Rattle.binary64.proofs.Encode.{to-top}
 use Rattle.binary64.proofs.Round.{round-top}

@@ -11,7 +11,7 @@ use Rattle.binary64.specs.Sum.{sum}
 use Rattle.binary64.proofs.Cases.{lt-or-ge}
 use Rattle.binary64.proofs.SumCases.{sum-comm}
 use Rattle.plans.specs.Computes.{Computes}
-use Rattle.plans.specs.SumPlan.{sumSteps, sumPlan}
+use Rattle.plans.specs.words.SumPlan.{sumSteps, sumPlan}
 use Rattle.plans.proofs.Modelled.{wellFormed, plan-computes}
 use Rattle.plans.proofs.sum.Run.{Riding, compareW, firstW, nearW, Aligned, alignW, addedW, sumModel, sum-run}
 use Rattle.plans.proofs.sum.Align.{ordered-yes, ordered-no}

@@ -6,7 +6,7 @@ use Prim.Native.Nat.{ℕ, suc, _+_, _-_, _*_, _%_, _^_, _≤_, _<_, min}
 use native.Mathlib.Nat.{lt-of-le-of-lt}
 use native.Mathlib.Omega.{arith}
 use lib.Count.{leadingZeros, leading-top}
-use Rattle.binary64.specs.Steps.{roundNE, packed, encodedAt, encoded}
+use Rattle.binary64.specs.inner.Steps.{roundNE, packed, encodedAt, encoded}
 use Rattle.binary64.proofs.Cases.{lt-or-ge, if-not-lt, pow-lt-back}
 use Rattle.plans.proofs.Lanes.{not-zero}
 use Rattle.plans.proofs.RoundTie.{round-tie}

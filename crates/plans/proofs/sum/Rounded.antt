@@ -10,7 +10,7 @@ use Rattle.bits.proofs.Sum.{xor-packed}
 use Rattle.bits.proofs.Bound.{not-lt, shr-lt}
 use Rattle.bits.proofs.Choice.{and-spread}
 use Rattle.bits.proofs.Places.{shr-is}
-use Rattle.binary64.specs.Steps.{roundNE}
+use Rattle.binary64.specs.inner.Steps.{roundNE}
 use Rattle.binary64.proofs.Round.{round-tie}
 use Rattle.plans.proofs.Fields.{low-bits, bit-mul-lt}
 use Rattle.plans.proofs.Shifts.{shl-keeps}

@@ -5,7 +5,7 @@ use Prim.Native.Nat.{ℕ, _-_, _/_, _^_}
 use lib.ListN.{getD}
 use Rattle.bits.specs.Ops.{xorW, andW, notW, shlW, shrW, spreadW}
 use Rattle.plain.specs.Machine.{stepped}
-use Rattle.plans.specs.SumPlan.{sumSteps}
+use Rattle.plans.specs.words.SumPlan.{sumSteps}
 use Rattle.plans.proofs.Shifts.{lowest, exponentW}
 use Rattle.plans.proofs.RunOfOnes.{nextN, nextF, stageAnd, runOf, orOf}
 use Rattle.plans.proofs.CarryRun.{carryN}

@@ -7,7 +7,7 @@ use native.Mathlib.Omega.{arith}
 use lib.Pow as Pow
 use lib.Pow.{pow-mono}
 use Rattle.binary64.specs.Number.{expo, frac}
-use Rattle.binary64.specs.Steps.{aligned}
+use Rattle.binary64.specs.inner.Steps.{aligned}
 use Rattle.binary64.proofs.Cases.{lt-or-ge}
 use Rattle.binary64.proofs.Jam.{jam-is, jam-all}
 use Rattle.binary64.proofs.SumCases.{aligned-none, aligned-some}

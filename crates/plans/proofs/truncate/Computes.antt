@@ -16,7 +16,7 @@ use Rattle.binary64.specs.Truncate.{truncate}
 use Rattle.binary64.proofs.Cases.{lt-or-ge}
 use Rattle.binary64.proofs.WholeModel.{truncate-large, truncate-small, truncate-between}
 use Rattle.plans.specs.Computes.{Computes}
-use Rattle.plans.specs.TruncatePlan.{truncateSteps, truncatePlan}
+use Rattle.plans.specs.words.TruncatePlan.{truncateSteps, truncatePlan}
 use Rattle.plans.proofs.Registers.{runSteps, tab}
 use Rattle.plans.proofs.Modelled.{wellFormed, plan-computes}
 use Rattle.plans.proofs.Fields.{clear-low}

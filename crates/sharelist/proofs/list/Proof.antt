@@ -10,7 +10,7 @@ use mir.Syntax.{w32}
 use mir.Val.{toZ, ofZ}
 use borrow.Author.Needs.{needs}
 use borrow.Author.Tests.{not-false}
-use Rattle.text.proofs.Placed.{as-long, counts}
+use Rattle.listing_lines.proofs.Placed.{as-long, counts}
 use Rattle.listing.specs.Pieces.{listedWords}
 use Rattle.listing.proofs.Piecewise.{goes-on}
 use Rattle.sharelist.proofs.Handing as handing

@@ -6,7 +6,7 @@ use native.Mathlib.Omega.{arith}
 use borrow.Author.Needs.{needs}
 use lib.Dec.{eqb}
 use Rattle.binary64.specs.Number.{expo, frac}
-use Rattle.binary64.specs.Steps.{jam, aligned}
+use Rattle.binary64.specs.inner.Steps.{jam, aligned}
 use Rattle.binary64.proofs.Cases.{by-eq}
 use Rattle.binary64.proofs.Words.{significand-shl}
 use Rattle.binary64.proofs.Jam.{jam-zero}

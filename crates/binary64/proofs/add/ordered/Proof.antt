@@ -6,7 +6,7 @@ use native.Mathlib.Omega.{arith}
 use borrow.Author.Needs.{needs}
 use lib.Dec.{eqb}
 use Rattle.binary64.specs.Number.{frac}
-use Rattle.binary64.specs.Steps.{aligned}
+use Rattle.binary64.specs.inner.Steps.{aligned}
 use Rattle.binary64.proofs.Words.{significand-shl}
 use Rattle.binary64.proofs.Selected.{larger, smaller, in-order, ordered-selected}
 use Rattle.binary64.proofs.add.ordered.Statement.{statement}

@@ -7,7 +7,7 @@ use native.Mathlib.Omega.{arith}
 use borrow.Author.Needs.{needs}
 use lib.Dec.{ltb}
 use lib.Pow.{pow-mono, shr-le}
-use Rattle.binary64.specs.Steps.{jam}
+use Rattle.binary64.specs.inner.Steps.{jam}
 use Rattle.binary64.proofs.Cases.{by-lt}
 use Rattle.binary64.proofs.Words.{cleared, low-rest}
 use Rattle.binary64.proofs.Jam.{jam-is, jam-all}

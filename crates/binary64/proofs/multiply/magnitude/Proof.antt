@@ -5,7 +5,7 @@ use Prim.Native.Nat.{ℕ, _+_, _*_}
 use native.Mathlib.Omega.{arith}
 use borrow.Author.Needs.{needs}
 use lib.Dec.{leb, eqb}
-use Rattle.binary64.specs.Steps.{jam}
+use Rattle.binary64.specs.inner.Steps.{jam}
 use Rattle.binary64.proofs.Selected.{product-selected}
 use Rattle.binary64.proofs.multiply.magnitude.Statement.{statement}
 use Rattle.binary64.proofs.multiply.magnitude.Tie as tie

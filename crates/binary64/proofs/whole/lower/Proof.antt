@@ -4,7 +4,7 @@ use Prim.Native.Nat.{ℕ, _+_, _-_, _%_, _^_}
 use lib.Bits.{bitAnd}
 use borrow.Author.Needs.{needs}
 use Rattle.binary64.specs.Number.{sign}
-use Rattle.binary64.specs.Steps.{loweredBy}
+use Rattle.binary64.specs.inner.Steps.{loweredBy}
 use Rattle.binary64.proofs.Selecting.{by-sign}
 use Rattle.binary64.proofs.whole.lower.Statement.{statement}
 use Rattle.binary64.proofs.whole.lower.Tie as tie

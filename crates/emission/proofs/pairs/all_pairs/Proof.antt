@@ -4,7 +4,7 @@ use mathlib.Core.Path.{ap, _∙_}
 use Prim.Native.Nat.{ℕ, _+_, _-_, _≤_, _<_}
 use native.Mathlib.Omega.{arith}
 use Rattle.masking.specs.Translation.{upFrom, shares, pairs, pairsOf}
-use Rattle.emission.specs.Written.{pairSteps}
+use Rattle.emission.specs.inner.Written.{pairSteps}
 use Rattle.emission.proofs.Parts.{Left, start, renamed, part, room, whole}
 use Rattle.masking.proofs.emitted.Rising.{rising, risen, from-first}
 use Rattle.emission.proofs.ByPair.{pair-append, pair-none}

@@ -3,7 +3,7 @@ use mathlib.Core.Path.{_≡_}
 use Prim.Native.Nat.{ℕ, _+_, _*_, _<_}
 use native.Mathlib.Omega.{arith}
 use Rattle.word.specs.Encoding.{put}
-use Rattle.emission.specs.Written.{cellsOn}
+use Rattle.emission.specs.inner.Written.{cellsOn}
 use Rattle.emission.proofs.Rows.{on-lt}
 use Rattle.emission.proofs.pairs.and_u.Statement.{statement}
 use Rattle.emission.proofs.pairs.and_u.Tie as tie

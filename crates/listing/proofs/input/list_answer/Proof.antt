@@ -7,7 +7,7 @@ use lib.Seq.{length-take-le}
 use borrow.Author.Needs.{needs}
 use borrow.Author.Tests.{not-true, not-false}
 use Rattle.translation.specs.Calls.{measureAnswer}
-use Rattle.text.proofs.Placed.{within, as-long, all-taken}
+use Rattle.listing_lines.proofs.Placed.{within, as-long, all-taken}
 use Rattle.listing.proofs.Words.{plan-count}
 use Rattle.listing.proofs.Answered.{no-byte, bad-count, too-long, broken, measured-then}
 use Rattle.listing.proofs.input.list_answer.Statement.{statement}

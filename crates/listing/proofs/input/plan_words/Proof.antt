@@ -1,6 +1,6 @@
 -- `listing::input::plan_words` meets its contract.
 use Rattle.listing.proofs.Words.{words-on, words-done, plan-behind, plan-count, words-short}
-use Rattle.text.proofs.Placed.{Left, start, renamed, wrote, wrote-none, wrote-empty}
+use Rattle.listing_lines.proofs.Placed.{Left, start, renamed, wrote, wrote-none, wrote-empty}
 use Rattle.listing.specs.Sharelist.{wordsOf, planRead}
 use borrow.Author.Needs.{needs}
 use denote.Ref.{now}

@@ -1,7 +1,7 @@
 -- `listing::pieces::list_piece` meets its contract.
 use Rattle.listing.proofs.Parts.{part-ends}
 use Rattle.listing.proofs.Piecewise.{listed-most, first-piece, next-piece}
-use Rattle.text.proofs.Placed.{counts, all-given, all-taken}
+use Rattle.listing_lines.proofs.Placed.{counts, all-given, all-taken}
 use native.Mathlib.Omega.{arith}
 use borrow.Author.Needs.{needs}
 use Rattle.listing.proofs.pieces.list_piece.Statement.{statement}

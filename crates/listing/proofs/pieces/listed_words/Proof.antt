@@ -1,6 +1,6 @@
 -- `listing::pieces::listed_words` meets its contract.
 use Rattle.listing.proofs.Piecewise.{listed-taken, listed-none}
-use Rattle.text.proofs.Placed.{wrote-empty}
+use Rattle.listing_lines.proofs.Placed.{wrote-empty}
 use borrow.Author.Needs.{needs}
 use Rattle.listing.proofs.pieces.listed_words.Statement.{statement}
 use Rattle.listing.proofs.pieces.listed_words.Tie as tie

@@ -5,7 +5,7 @@ use native.Mathlib.Omega.{arith}
 use borrow.Author.Needs.{needs}
 use Rattle.word.specs.declared.step.Decoded.the-variants.{Good}
 use Rattle.word.specs.Encoding.{kindOf, kindNumber, planStep}
-use Rattle.translation.specs.Inner.{PlanWord}
+use Rattle.translation.specs.inner.Inner.{PlanWord}
 use Rattle.translation.proofs.Straight.{plan-good, kind-is, in-plan, registers-of, number-is, linear-words, linear-length, row-words}
 use Rattle.translation.proofs.plan_word.plan_word.Statement.{statement}
 use Rattle.translation.proofs.plan_word.plan_word.Tie as tie

@@ -1,2 +1,0 @@
--- Names for a plan's registers and good words (PlanWords), cited by inner functions only: nothing here has to be believed.
-pub mod PlanWords

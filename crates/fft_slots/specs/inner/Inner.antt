@@ -1,0 +1,52 @@
+-- Names that inner contracts cite: nothing here has to be believed. Numbers held in slots lie in cells of the work slice that translated
+-- plans do not use.
+use mathlib.Core.Path.{_≡_}
+use mathlib.Core.List.{List, [], _∷_}
+use Prim.Native.Nat.{ℕ, suc, _+_, _*_, _<_}
+use lib.ListN.{length, set}
+use Rattle.fft_numbers.specs.Acts.{Act, Slots, runShares}
+use Rattle.fft_numbers.specs.Layout.{numberOf}
+
+-- where slot k's shares begin, and how far apart they lie
+abbrev pub slotAt : ℕ → ℕ
+slotAt k = 352 + k
+
+abbrev pub slotStep : ℕ
+slotStep = 16
+
+-- the shares held in slot k
+abbrev pub heldOf : ℕ → ℕ → List ℕ → List ℕ
+heldOf n k work = numberOf n slotStep (slotAt k) work
+
+-- words written from `at` on, `step` apart, from share i on
+abbrev pub written : ℕ → ℕ → ℕ → List ℕ → List ℕ → List ℕ
+written step at i [] l = l
+written step at i (x ∷ xs) l = written step at (suc i) xs (set l (step * i + at) x)
+
+-- a number's places lie in a slice of this length
+abbrev pub Inside : ℕ → ℕ → ℕ → ℕ → Type 0
+Inside n step at size = (i : ℕ) → i < n → step * i + at < size
+
+-- the places of one number are none of another's
+abbrev pub Apart : ℕ → ℕ → ℕ → ℕ → ℕ → Type 0
+Apart n step at step′ at′ = (i i′ : ℕ) → i < n → i′ < n → step * i + at ≡ step′ * i′ + at′ → ⊥
+
+-- the work slice holds the fft_slots' numbers
+pub record HeldIn (n : ℕ) (work : List ℕ) (s : Slots (List ℕ)) : Type 0 where
+  pub size : length work ≡ 512
+  pub each : (k : ℕ) → k < 16 → heldOf n k work ≡ s .held k
+
+-- the lent words are the lent numbers
+pub record LentIn (n S : ℕ) (numbers : List ℕ) (s : Slots (List ℕ)) : Type 0 where
+  pub size : length numbers ≡ S * n
+  pub each : (j : ℕ) → j < S → numberOf n S j numbers ≡ s .lent j
+
+-- what acts over a tape make of the slots is what is held after them
+abbrev pub HeldDone : ℕ → List Act → List ℕ → List ℕ → List ℕ → Type 0
+HeldDone n acts tape work work′ = (s : Slots (List ℕ)) → HeldIn n work s → HeldIn n work′ (runShares n acts tape s)
+
+-- and of the lent numbers is what is lent
+abbrev pub Done : ℕ → ℕ → List Act → List ℕ → List ℕ → List ℕ → List ℕ → List ℕ → Type 0
+Done n S acts tape numbers work numbers′ work′ =
+    (s : Slots (List ℕ)) → LentIn n S numbers s → HeldIn n work s
+    → LentIn n S numbers′ (runShares n acts tape s) × HeldIn n work′ (runShares n acts tape s)

@@ -1,0 +1,88 @@
+-- The blocks of a translation by the places of their registers. Rests on masking's Places.
+use mathlib.Core.Path.{_≡_, refl, sym, ap, _∙_, subst}
+use mathlib.Core.List.{List, map}
+use Prim.Native.Nat.{ℕ, _+_, _-_, _*_, _<_}
+use native.Mathlib.Omega.{arith}
+use Rattle.word.specs.declared.step.Step.{Step}
+use Rattle.word.specs.declared.step.Step.the-variants.{And}
+use Rattle.masking.specs.Translation.{shares, shareCell, cellsOf, scratch, block, andBlock}
+use Rattle.masking.proofs.emitted.Places.{share-register, share-helper}
+use Rattle.and_parts.specs.declared.once.Place.{Place}
+use Rattle.and_parts.specs.declared.once.Op.{Op}
+use Rattle.and_parts.specs.inner.Effects.{Enough, Ran, Register, Still, at, onceStep, placed}
+use Rattle.gates.specs.inner.PlanWords.{IsHelper, OfPlan}
+use Rattle.and_parts.proofs.Running.{still-ran}
+use Rattle.and_parts.proofs.Turn.{once-rands}
+
+-- ---- places and the registers that they are
+
+-- a place is that of a register
+pub record Named (p : Place) (r : ℕ) : Type 0 where
+  pub same : at p ≡ cellsOf r
+  pub register : Register p
+
+-- helper register h of ADD
+abbrev pub helperAt : ℕ → Place
+helperAt h = record { base = 288 + h; stride = 8 }
+
+helper-same : (h : ℕ) → at (helperAt h) ≡ cellsOf (32 + h)
+helper-same h = λ k i. by i k
+  where
+    by : (i : ℕ) → at (helperAt h) i ≡ shareCell i (32 + h)
+    by i = let e : 288 + h + i * 8 ≡ 288 + 8 * i + (32 + h - 32) = omega arith in e ∙ sym (share-helper i (32 + h) (omega arith))
+
+helper-register : (h : ℕ) → h < 8 → Register (helperAt h)
+helper-register h l = record { inside = omega arith; spread = omega arith; away = λ i c i8 lo hi e. omega arith }
+
+pub helper-named : (h : ℕ) → h < 8 → Named (helperAt h) (32 + h)
+helper-named h l = record { same = helper-same h; register = helper-register h l }
+
+module _ (p : Place) (o : OfPlan p) where
+  at-plan : (i : ℕ) → at p i ≡ p .base + i * 32
+  at-plan i = ap (λ (s : ℕ). p .base + i * s) (o .1)
+
+  plan-same : at p ≡ cellsOf (p .base)
+  plan-same = λ k i. by i k
+    where
+      by : (i : ℕ) → at p i ≡ shareCell i (p .base)
+      by i = let e : p .base + i * 32 ≡ 32 * i + p .base = omega arith in at-plan i ∙ e ∙ sym (share-register i (p .base) (o .0))
+
+  plan-register : Register p
+  plan-register = record { inside = omega (arith, o .0, o .1); spread = omega (arith, o .1); away = λ i c i8 lo hi e. omega (arith, at-plan i, o .0) }
+
+  pub plan-named : Named p (p .base)
+  plan-named = record { same = plan-same; register = plan-register }
+
+-- a place by its numbers
+module _ (p : Place) (r : ℕ) (e : p .base ≡ r) (f : p .stride ≡ 32) (h : r < 32) where
+  pub of-plan : OfPlan p
+  of-plan = (omega arith, f)
+
+  pub plan-register-named : Named p r
+  plan-register-named = subst (Named p) e (plan-named p of-plan)
+
+-- operands of AND by their share 0
+pub plan-placed : (r : ℕ) → r < 32 → Named (placed r 32) r
+plan-placed r h = plan-register-named (placed r 32) r refl refl h
+
+pub helper-placed : (p : Place) (h : ℕ) → IsHelper h p → h < 8 → Named (placed (p .base) 8) (32 + h)
+helper-placed p h e l = subst (λ (k : ℕ). Named (placed k 8) (32 + h)) (sym e) (helper-named h l)
+
+-- ---- once per share
+module _ (o : Op) (n : ℕ) {pd pa pb : Place} {d a b : ℕ} (ed : Named pd d) (ea : Named pa a) (eb : Named pb b) where
+  pub once-still : (c c' : List ℕ) → Still (map (onceStep o (at pd) (at pa) (at pb)) (shares n)) c c' → Still (map (onceStep o (cellsOf d) (cellsOf a) (cellsOf b)) (shares n)) c c'
+  once-still c c' = subst (λ (ss : List Step). Still ss c c') (λ k. map (onceStep o (ed .same k) (ea .same k) (eb .same k)) (shares n))
+
+  pub once-ran : {c c' : List ℕ} (tape : List ℕ) (t : ℕ) → Still (map (onceStep o (at pd) (at pa) (at pb)) (shares n)) c c' → Ran (map (onceStep o (cellsOf d) (cellsOf a) (cellsOf b)) (shares n)) tape t c c' t
+  once-ran {c} {c'} tape t h = still-ran tape t (once-rands o (cellsOf d) (cellsOf a) (cellsOf b) (shares n)) (once-still c c' h)
+
+-- ---- AND
+module _ (n : ℕ) {pd pa pb : Place} {d a b : ℕ} (ed : Named pd d) (ea : Named pa a) (eb : Named pb b) where
+  and-block : andBlock scratch n (at pd) (at pa) (at pb) ≡ block scratch n (And d a b)
+  and-block = λ k. andBlock scratch n (ed .same k) (ea .same k) (eb .same k)
+
+  pub and-ran : {c c' tape : List ℕ} {t t' : ℕ} → Ran (andBlock scratch n (at pd) (at pa) (at pb)) tape t c c' t' → Ran (block scratch n (And d a b)) tape t c c' t'
+  and-ran {c} {c'} {tape} {t} {t'} = subst (λ (ss : List Step). Ran ss tape t c c' t') and-block
+
+  pub and-enough : (tape : List ℕ) (t : ℕ) → Enough tape t (block scratch n (And d a b)) → Enough tape t (andBlock scratch n (at pd) (at pa) (at pb))
+  and-enough tape t = subst (Enough tape t) (sym and-block)

@@ -1,2 +1,0 @@
--- Names that inner contracts cite (Inner).
-pub mod Inner

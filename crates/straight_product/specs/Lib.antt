@@ -1,3 +1,0 @@
--- Written by tools/compile_plan.py: change the plan or the compiler, not this file.
--- The product's plan cut at its ANDs and ADDs (Runs). Nothing here has to be believed: the contracts of the public calls do not cite it.
-pub mod Runs
