@@ -1,4 +1,4 @@
--- Checking and answers, from document 01's section "Calls and their turn-downs".
+-- Checking and answers, from document 01's sections "Step words" and "Calls and their turn-downs".
 use mathlib.Core.Bool.{Bool, true, false}
 use mathlib.Core.List.{List, [], _∷_}
 use mathlib.Core.Path.{_≡_}
@@ -23,11 +23,6 @@ abbrev pub firstBad : (ℕ → Decoded) → List ℕ → ℕ
 firstBad step [] = 0
 firstBad step (w ∷ ws) = firstOf (step w) (firstBad step ws)
 
--- whether what a reader finds is a good word: neither the plan's end nor a bad word
-abbrev pub goodRead : (ℕ → Decoded) → Read → Bool
-goodRead step (Word w) = isGood (step w)
-goodRead step End = false
-
 -- what is proved of it: every word before the place is good, and the word at the place is bad unless the place is the end
 pub record FirstBad (step : ℕ → Decoded) (l : List ℕ) (place : ℕ) : Type 0 where
   pub within : place ≤ length l
@@ -36,6 +31,11 @@ pub record FirstBad (step : ℕ → Decoded) (l : List ℕ) (place : ℕ) : Type
 
 abbrev pub FirstBadFound : Type 0
 FirstBadFound = (step : ℕ → Decoded) (l : List ℕ) → FirstBad step l (firstBad step l)
+
+-- whether what a reader finds is a good word: neither the plan's end nor a bad word
+abbrev pub goodRead : (ℕ → Decoded) → Read → Bool
+goodRead step (Word w) = isGood (step w)
+goodRead step End = false
 
 -- "Every answer has the number (0 for done), a place (first bad word from 0 for number 3, else 0) and counts, zero when turned down."
 abbrev pub done : ℕ → ℕ → Answer

@@ -13,10 +13,10 @@ use Rattle.plans.specs.words.SumPlan.{sumPlan}
 use Rattle.masked_call.specs.Shares.{resultShares}
 use Rattle.masked_call.proofs.Beside.{result-size}
 use Rattle.fft_numbers.specs.Acts.{Slots, plainShares, flippedFirst, tapeFor, runShares}
-use Rattle.fft_numbers.specs.Complex.{slotA, slotB, slotC, slotD}
+use Rattle.fft_numbers.specs.Complex.{slotA, slotB, slotC, slotD, slotOfPart}
 use Rattle.fft_numbers.specs.Layer.{blockCount, placeOf, pairOf, firstPairs}
 use Rattle.fft_numbers.specs.Layout.{numberOf}
-use Rattle.fft_numbers.specs.Calls.{layerStart, layerEnd, layerShares}
+use Rattle.fft_numbers.specs.Calls.{complexStart, complexEnd, complexShares, layerStart, layerEnd, layerShares}
 use Rattle.fft_numbers.specs.Means.{sumFrom, reFrom, imFrom, pairAfter, PairOnShares, ComplexComesTo, PairComesTo, OnSharesMeans}
 use Rattle.fft_numbers.proofs.Laws.{shares-append}
 use Rattle.fft_numbers.proofs.Laid.{laid-size, read-back}
@@ -209,11 +209,34 @@ module _ (n N h : ℕ) (least : 2 ≤ n) (most : n ≤ 8) (S : Sizes N h) (numbe
       (λ x. read-back n (2 * N) (after (N / 2) .lent) (at x) (among N h p (pair-placed N h k S less .inside) x)
       (ap length (own x) ∙ makes-size n (part k) (re k) (im k) (λ y. number numbers (at y)) x) ∙ own x)
 
+-- ---- the complex product in the lent words
+module _ (n : ℕ) (x y tape : List ℕ) where
+  abbrev parts : ℕ → List ℕ
+  parts j = complexEnd n x y tape .held (slotOfPart j)
+
+  abbrev done : ComplexComesTo n tape (complexStart n x y)
+  done = complex-comes-to n tape (complexStart n x y)
+
+  complex-re : numberOf n 2 0 (complexShares n x y tape) ≡ reFrom n tape (numberOf n 2 0 x) (numberOf n 2 1 x) (numberOf n 2 0 y) (numberOf n 2 1 y)
+  unfolding complexShares
+  complex-re = read-back n 2 parts 0 (omega arith) (ap length (done .re) ∙ result-size n sumPlan _ _ _) ∙ done .re
+
+  complex-im : numberOf n 2 1 (complexShares n x y tape) ≡ imFrom n tape (numberOf n 2 0 x) (numberOf n 2 1 x) (numberOf n 2 0 y) (numberOf n 2 1 y)
+  unfolding complexShares
+  complex-im = read-back n 2 parts 1 (omega arith) (ap length (done .im) ∙ result-size n sumPlan _ _ _) ∙ done .im
+
+  complex-size : length (complexShares n x y tape) ≡ 2 * n
+  unfolding complexShares
+  complex-size = laid-size n 2 parts
+
 pub on-shares-means : OnSharesMeans
 unfolding layerShares
 on-shares-means =
     record {
       complex = complex-comes-to;
+      complex-re = complex-re;
+      complex-im = complex-im;
+      complex-size = complex-size;
       pair = pair-comes-to;
       layer = λ n N h numbers factors tape least most e. layer-comes-to n N h least most (sizes N h e) numbers factors tape;
       layer-size = λ n N h numbers factors tape. laid-size n (2 * N) (layerEnd n N h numbers factors tape .lent);

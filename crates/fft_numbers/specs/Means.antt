@@ -1,6 +1,7 @@
 -- What a layer on plain words comes to in closed form. Calls' `layerWords` is defined by acts done one after another; document 02, No. 5, says
 -- what each pair becomes: "Each pair u, v, places p and p + h of a block, becomes u + w·v and u − w·v in the same places, with w as a + bi."
--- And what the complex product, a pair and a layer come to on shares: which words of the tape each of their calls goes by.
+-- And what the complex product, a pair and a layer come to on shares: from which word of the tape on each of their calls goes. That a call takes no
+-- more of it than its plan foretells is `acts-are-calls` (Holds).
 use mathlib.Core.Path.{_≡_}
 use mathlib.Core.Bool.{true}
 use mathlib.Core.List.{List}
@@ -16,9 +17,9 @@ use Rattle.fft_numbers.specs.Acts.{Slots, flipped, plainShares, flippedF
 use Rattle.fft_numbers.specs.Complex.{slotA, slotB, slotC, slotD, slotRe, slotIm, complexActs, complexRe, complexIm}
 use Rattle.fft_numbers.specs.Layer.{isLayer, placeOf, blockCount, pairActs}
 use Rattle.fft_numbers.specs.Layout.{numberOf}
-use Rattle.fft_numbers.specs.Calls.{layerShares, layerWords}
+use Rattle.fft_numbers.specs.Calls.{complexShares, layerShares, layerWords}
 
--- The pair of number k, by rising place, among numbers and after.
+-- Pair k, counted by rising place: its numbers in `numbers`, and what is in `after` of them.
 module _ (N h : ℕ) (numbers factors after : List ℕ) (k : ℕ) where
   -- "places p and p + h of a block"
   abbrev pub placeU : ℕ
@@ -130,6 +131,12 @@ module _ (n : ℕ) (tape : List ℕ) where
 
 pub record OnSharesMeans : Type 0 where
   pub complex : (n : ℕ) (tape : List ℕ) (s : Slots (List ℕ)) → ComplexComesTo n tape s
+  -- in the lent words, x as a + bi and y as c + di: "N is 1 for the product"
+  pub complex-re : (n : ℕ) (x y tape : List ℕ)
+      → numberOf n 2 0 (complexShares n x y tape) ≡ reFrom n tape (numberOf n 2 0 x) (numberOf n 2 1 x) (numberOf n 2 0 y) (numberOf n 2 1 y)
+  pub complex-im : (n : ℕ) (x y tape : List ℕ)
+      → numberOf n 2 1 (complexShares n x y tape) ≡ imFrom n tape (numberOf n 2 0 x) (numberOf n 2 1 x) (numberOf n 2 0 y) (numberOf n 2 1 y)
+  pub complex-size : (n : ℕ) (x y tape : List ℕ) → length (complexShares n x y tape) ≡ 2 * n
   pub pair : (n : ℕ) (tape : List ℕ) (s : Slots (List ℕ)) (N h re im p : ℕ) → 0 < h → p + h < N → PairComesTo n tape s N h re im p
   -- a whole layer, in the lent words: "pairs by rising place", "one after another on the tape". Pair k runs on its numbers as they were lent, over
   -- the tape from word k·622·n(n − 1) on, with the factor of its block. By `places` above each number is one of a pair's four.

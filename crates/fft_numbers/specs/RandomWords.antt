@@ -1,5 +1,5 @@
--- How many random words the complex product and a layer on shares take: what their calls take one after another (`transforms`, its `tape` and
--- `acts-are-calls`, in Holds), by the operations' figures (operations/specs/RandomWords).
+-- How many random words the complex product and a layer on shares take: what their calls take one after another (`tape` of `ComplexHolds` and of
+-- `LayerHolds`, and `acts-are-calls`, in Holds), by the operations' figures (operations/specs/RandomWords).
 use mathlib.Core.Path.{_≡_}
 use mathlib.Core.Bool.{true}
 use mathlib.Core.List.{List}

@@ -2,9 +2,9 @@
 use mathlib.Core.Path.{_≡_}
 use mathlib.Core.Bool.{not, _||_, cond}
 use mathlib.Core.List.{List, [], _∷_, _++_}
-use Prim.Native.Nat.{ℕ, _+_, _*_, _%_}
+use Prim.Native.Nat.{ℕ, _+_, _*_, _%_, _<_}
 use lib.Dec.{ltb, eqb}
-use lib.ListN.{length}
+use lib.ListN.{length, take}
 use Rattle.checks.specs.declared.answer.Answer.{Answer}
 use Rattle.word.specs.Layout.{planMax, isShareCount}
 use Rattle.checks.specs.Answers.{refused, given}
@@ -48,6 +48,10 @@ listing input =
     cond (eqb (listAnswer input .number) 0)
     (firstLine (countOf input) (listAnswer input .words) (listAnswer input .tape) ++ hexLines (program (countOf input) (planRead input)))
     (refusedLine (listAnswer input .number))
+
+-- "more than 8,193 bytes": the first 8,194 of such an input are enough to know what is written
+abbrev pub LongInputs : Type 0
+LongInputs = (input : List ℕ) → inputMax < length input → listing (take (1 + inputMax) input) ≡ listing input
 
 -- the document's example: bytes 02 01 00 08 20 give the lines "shares 2 words 2 tape 0", "20080001" and "20884021"
 abbrev pub ExampleListed : Type 0

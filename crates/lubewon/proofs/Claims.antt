@@ -32,6 +32,7 @@ use Rattle.fft_numbers.proofs.OnShares as on-shares
 use Rattle.fft_numbers.proofs.RandomWords as transform-tape
 use Rattle.fft_numbers.proofs.Examples as worked-complex
 use Rattle.listing.proofs.Whole as listing
+use Rattle.listing.proofs.Long as long
 use Rattle.listing.proofs.Example as listed
 use Rattle.lubewon.specs.Claims.{Claims}
 use Rattle.lubewon.proofs.TurnDowns as turned-down
@@ -74,6 +75,7 @@ claims =
       random-words = tape.random-words;
       transform-words = transform-tape.transform-words;
       pieces-are-listing = listing.pieces-are-listing;
+      long-inputs = long.long-inputs;
       example = listed.example;
       word-examples = plain-examples.word-examples;
       translation-examples = examples.translation-examples;

@@ -29,7 +29,7 @@ use Rattle.fft_numbers.specs.Holds.{Transforms}
 use Rattle.fft_numbers.specs.Means.{LayerMeans, OnSharesMeans}
 use Rattle.fft_numbers.specs.RandomWords.{TransformWords}
 use Rattle.fft_numbers.specs.Examples.{ComplexExamples}
-use Rattle.listing.specs.Sharelist.{ExampleListed}
+use Rattle.listing.specs.Sharelist.{ExampleListed, LongInputs}
 use Rattle.listing.specs.Pieces.{PiecesAreListing}
 use Rattle.lubewon.specs.TurnDowns.{TurnDowns}
 
@@ -80,8 +80,10 @@ pub record Claims : Type 0 where
   -- how many random words each operation on shares takes; the complex product and a layer
   pub random-words : RandomWords
   pub transform-words : TransformWords
-  -- the listing in the pieces that `list_piece` writes, and document 01's example of it
+  -- the listing in the pieces that `list_piece` writes, that of an input that is too long, and document 01's example; what the program
+  -- `sharelist` reads and writes rests on the contracts of its own functions
   pub pieces-are-listing : PiecesAreListing
+  pub long-inputs : LongInputs
   pub example : ExampleListed
   -- worked examples of words, plans and translations, of complex numbers, and of each turn-down
   pub word-examples : WordExamples

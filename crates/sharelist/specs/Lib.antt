@@ -1,3 +1,3 @@
--- When an input was read to its end (Whole); which bytes are handed on (HandedOn).
+-- When what was read of an input is enough to list it by (Whole); which bytes are handed on (HandedOn).
 pub mod Whole
 pub mod HandedOn

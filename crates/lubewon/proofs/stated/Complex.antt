@@ -23,7 +23,7 @@ use Rattle.fft_numbers.specs.Acts.{Act, Put, Flip, Load, Store, Call, Slots, fl
 use Rattle.fft_numbers.specs.Complex.{complexActs}
 use Rattle.fft_numbers.specs.Layer.{isLayer, pairActs, layerActs}
 use Rattle.fft_numbers.specs.Layout.{numberOf, joinedWords}
-use Rattle.fft_numbers.specs.Calls.{complexTape, complexStart, complexCallAnswer, complexResult, layerTape, layerStart, layerCallAnswer, layerNumbers, layerShares, layerWords, plainCallAnswer, plainNumbers}
+use Rattle.fft_numbers.specs.Calls.{complexTape, complexStart, complexCallAnswer, complexResult, complexShares, layerTape, layerStart, layerCallAnswer, layerNumbers, layerShares, layerWords, plainCallAnswer, plainNumbers}
 use Rattle.fft_numbers.specs.Secrecy.{Shared, AgreeIn, PutsWords, CallHidden, StepOfCalls}
 use Rattle.fft_numbers.specs.Holds.{joinedSlots, AsCalled, OperandsAgree, ComplexSecret, ComplexHolds, LayerSecret, LayerHolds, Transforms}
 use Rattle.fft_numbers.specs.Means.{PairBecomes, LayerMeans, PairOnShares, ComplexComesTo, PairComesTo, OnSharesMeans}
@@ -338,6 +338,17 @@ module _ (n : ℕ) (tape : List ℕ) where
 module _ (h : OnSharesMeans) where
   on-shares-means-complex : (n : ℕ) (tape : List ℕ) (s : Slots (List ℕ)) → ComplexComesTo n tape s
   on-shares-means-complex = h .complex
+
+  on-shares-means-complex-re : (n : ℕ) (x y tape : List ℕ)
+      → numberOf n 2 0 (complexShares n x y tape) ≡ reOf n tape (numberOf n 2 0 x) (numberOf n 2 1 x) (numberOf n 2 0 y) (numberOf n 2 1 y)
+  on-shares-means-complex-re = h .complex-re
+
+  on-shares-means-complex-im : (n : ℕ) (x y tape : List ℕ)
+      → numberOf n 2 1 (complexShares n x y tape) ≡ imOf n tape (numberOf n 2 0 x) (numberOf n 2 1 x) (numberOf n 2 0 y) (numberOf n 2 1 y)
+  on-shares-means-complex-im = h .complex-im
+
+  on-shares-means-complex-size : (n : ℕ) (x y tape : List ℕ) → length (complexShares n x y tape) ≡ 2 * n
+  on-shares-means-complex-size = h .complex-size
 
   on-shares-means-pair : (n : ℕ) (tape : List ℕ) (s : Slots (List ℕ)) (N d a b q : ℕ) → 0 < d → q + d < N → PairComesTo n tape s N d a b q
   on-shares-means-pair = h .pair

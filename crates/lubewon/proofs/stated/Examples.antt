@@ -2,8 +2,8 @@
 use mathlib.Core.Path.{_≡_}
 use mathlib.Core.Bool.{true, false}
 use mathlib.Core.List.{List, [], _∷_, _++_, map}
-use Prim.Native.Nat.{ℕ, _-_, _^_, _≤_}
-use lib.ListN.{length, getD, replicate}
+use Prim.Native.Nat.{ℕ, _-_, _^_, _≤_, _<_}
+use lib.ListN.{length, getD, take, replicate}
 use Rattle.word.specs.declared.step.Step.the-variants.{Const, Xor, And, Not, Shl, Add, Rand}
 use Rattle.word.specs.declared.step.Decoded.the-variants.{Good, Bad}
 use Rattle.word.specs.Encoding.{planStep, programStep, wordOf}
@@ -202,6 +202,9 @@ module _ (C : Claims) where
   -- 36,288 bytes are nine for each of the 4,032 share words that a plan word gives at most, 2,049 pieces one for the first line and one for each plan word
   pieces-are-listing : (room : ℕ) → 36288 ≤ room → (input : List ℕ) → piecesFrom 2049 room input 0 ≡ listing input
   pieces-are-listing = C .pieces-are-listing
+
+  long-inputs : (input : List ℕ) → 8193 < length input → listing (take 8194 input) ≡ listing input
+  long-inputs = C .long-inputs
 
   -- "shares 2 words 2 tape 0", "20080001", "20884021"
   example : listing (0x02 ∷ 0x01 ∷ 0x00 ∷ 0x08 ∷ 0x20 ∷ [])

@@ -21,10 +21,10 @@ use Rattle.sharelist.proofs.list.Reads as reads
 use Rattle.sharelist.proofs.list.Lts as lts
 
 abbrev Inv-loop : tie.InvT-loop
-Inv-loop fd input last sent₀ buffer₀ at₀ sent buffer at = (65536 ≡ length buffer) × Standing input sent at
+Inv-loop fd input sent₀ buffer₀ at₀ sent buffer at = (65536 ≡ length buffer) × Standing input sent at
 
 abbrev μ-loop : tie.MeasureT-loop
-μ-loop fd input last sent₀ buffer₀ at₀ sent buffer at = length (listedWords input) - at
+μ-loop fd input sent₀ buffer₀ at₀ sent buffer at = length (listedWords input) - at
 
 loop-holds : tie.Need-loop-holds Inv-loop μ-loop
 loop-holds c = (c .large-buffer .ensures, begun _ (search needs))
