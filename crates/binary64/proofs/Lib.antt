@@ -1,20 +1,16 @@
 -- The lemmas, each file over those above it. Dropping has the one fact about dropping low bits by which FloorModel and WholeModel have floor, truncation and
--- nearest on the word itself; these are what the plain code (WholeSelected) and the plans go by.
+-- nearest on the word itself; these are what the plain code (binary64_whole) and the plans go by.
 pub mod Cases
 pub mod Words
-pub mod Selecting
 pub mod Jam
 pub mod Round
 pub mod Encode
 pub mod ProductModel
-pub mod Columns
 pub mod SumModel
 pub mod SumCases
 pub mod Dropping
 pub mod FloorModel
 pub mod WholeModel
-pub mod Selected
-pub mod WholeSelected
 pub mod Meaning
 pub mod WholeMeaning
 pub mod FloorMeaning

@@ -26,7 +26,7 @@ pub const SIGN: u64 = 0x8000_0000_0000_0000;
 pub(crate) fn difference(a: u64, b: u64) -> u64
     ensures { λ r. ⌜ r ≡ sum a (flipped b) ⌝ }
 {
-    binary64::sum(a, b ^ SIGN)
+    binary64_plain::sum(a, b ^ SIGN)
 }
 
 // The product of a + bi and c + di: four products, then one sum each. Never turned down.
@@ -34,12 +34,12 @@ pub fn product(a: u64, b: u64, c: u64, d: u64) -> Complex
     ensures re { λ r. ⌜ r .re ≡ complexRe a b c d ⌝ }
     ensures im { λ r. ⌜ r .im ≡ complexIm a b c d ⌝ }
 {
-    let ac = binary64::product(a, c);
-    let bd = binary64::product(b, d);
-    let ad = binary64::product(a, d);
-    let bc = binary64::product(b, c);
+    let ac = binary64_plain::product(a, c);
+    let bd = binary64_plain::product(b, d);
+    let ad = binary64_plain::product(a, d);
+    let bc = binary64_plain::product(b, c);
     let re = difference(ac, bd);
-    let im = binary64::sum(ad, bc);
+    let im = binary64_plain::sum(ad, bc);
     Complex { re: re, im: im }
 }
 

@@ -21,7 +21,7 @@ struct Both {
 fn plus_minus(u: u64, w: u64) -> Both
     ensures { λ r. ⌜ (r .plus ≡ sum u w) × (r .minus ≡ sum u (flipped w)) ⌝ }
 {
-    let plus = binary64::sum(u, w);
+    let plus = binary64_plain::sum(u, w);
     let minus = difference(u, w);
     Both {
         plus: plus,

@@ -19,7 +19,7 @@ use checks::answer::Answer;
 pub extern "C" fn lubewon_product(a: u64, b: u64) -> u64
     ensures { λ r. ⌜ r ≡ product-spec.product a b ⌝ }
 {
-    binary64::product(a, b)
+    binary64_plain::product(a, b)
 }
 
 // Their sum.
@@ -27,7 +27,7 @@ pub extern "C" fn lubewon_product(a: u64, b: u64) -> u64
 pub extern "C" fn lubewon_sum(a: u64, b: u64) -> u64
     ensures { λ r. ⌜ r ≡ sum-spec.sum a b ⌝ }
 {
-    binary64::sum(a, b)
+    binary64_plain::sum(a, b)
 }
 
 // The greatest whole number not above a number, with its sign.
@@ -35,7 +35,7 @@ pub extern "C" fn lubewon_sum(a: u64, b: u64) -> u64
 pub extern "C" fn lubewon_floor(a: u64) -> u64
     ensures { λ r. ⌜ r ≡ floor-spec.floor a ⌝ }
 {
-    binary64::floor(a)
+    binary64_whole::floor(a)
 }
 
 // The whole part of a number, with its sign.
@@ -43,7 +43,7 @@ pub extern "C" fn lubewon_floor(a: u64) -> u64
 pub extern "C" fn lubewon_truncate(a: u64) -> u64
     ensures { λ r. ⌜ r ≡ truncate-spec.truncate a ⌝ }
 {
-    binary64::truncate(a)
+    binary64_whole::truncate(a)
 }
 
 // The whole number nearest to a number, a tie to the even one, with its sign.
@@ -51,7 +51,7 @@ pub extern "C" fn lubewon_truncate(a: u64) -> u64
 pub extern "C" fn lubewon_nearest(a: u64) -> u64
     ensures { λ r. ⌜ r ≡ nearest-spec.nearest a ⌝ }
 {
-    binary64::nearest(a)
+    binary64_whole::nearest(a)
 }
 
 // Copies of the built-in plans. Their words are free by document 01; what holds of them is `BuiltIns`.

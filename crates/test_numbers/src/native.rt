@@ -101,7 +101,7 @@ pub fn product(a: u64, b: u64) -> u64 {
     if !plain(b) {
         return SKIPPED;
     }
-    let ours = binary64::product(a, b);
+    let ours = binary64_plain::product(a, b);
     if magnitude(a) != 0 {
         if magnitude(b) != 0 {
             if below_normal(a, b) {
@@ -123,10 +123,10 @@ pub fn sum(a: u64, b: u64) -> u64 {
     let theirs = bits(number(a) + number(b));
     if magnitude(theirs) != 0 {
         if magnitude(theirs) < LEAST_NORMAL {
-            return apart(binary64::sum(a, b), theirs & 0x8000_0000_0000_0000);
+            return apart(binary64_plain::sum(a, b), theirs & 0x8000_0000_0000_0000);
         }
     }
-    compared(binary64::sum(a, b), theirs)
+    compared(binary64_plain::sum(a, b), theirs)
 }
 
 // The nearest whole number, a tie to the even one, for a magnitude below 2^52. This is the processor's own rounding: a sum with 2^52 of x's sign
@@ -164,17 +164,17 @@ fn sign_kept(ours: u64, a: u64, rounded: f64) -> u64 {
 pub fn floor(a: u64) -> u64 {
     if 0x8000_0000_0000_0000 < a {
         if a < 0x8010_0000_0000_0000 {
-            return apart(binary64::floor(a), 0x8000_0000_0000_0000);
+            return apart(binary64_whole::floor(a), 0x8000_0000_0000_0000);
         }
     }
-    sign_kept(binary64::floor(a), a, whole(number(a)))
+    sign_kept(binary64_whole::floor(a), a, whole(number(a)))
 }
 
 // The magnitude's floor, by the adder too: Rattle's conversions that drop a fraction do so on the bits, and not by the processor's own.
 pub fn truncate(a: u64) -> u64 {
-    sign_kept(binary64::truncate(a), a, whole(number(magnitude(a))))
+    sign_kept(binary64_whole::truncate(a), a, whole(number(magnitude(a))))
 }
 
 pub fn nearest(a: u64) -> u64 {
-    sign_kept(binary64::nearest(a), a, near(number(magnitude(a))))
+    sign_kept(binary64_whole::nearest(a), a, near(number(magnitude(a))))
 }

@@ -51,11 +51,11 @@ const OPERATIONS: u64 = 5;
 
 fn plain_result(op: u64, a: u64, b: u64) -> u64 {
     match op {
-        0 => binary64::product(a, b),
-        1 => binary64::sum(a, b),
-        2 => binary64::floor(a),
-        3 => binary64::truncate(a),
-        _ => binary64::nearest(a),
+        0 => binary64_plain::product(a, b),
+        1 => binary64_plain::sum(a, b),
+        2 => binary64_whole::floor(a),
+        3 => binary64_whole::truncate(a),
+        _ => binary64_whole::nearest(a),
     }
 }
 

@@ -1,0 +1,2 @@
+-- What the code selects, in numbers.
+pub mod Selected

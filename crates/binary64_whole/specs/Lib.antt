@@ -1,0 +1,2 @@
+-- Steps has names for intermediate numbers only.
+pub mod inner
