@@ -1,0 +1,70 @@
+-- Written by tools/compile_plan.py: change the plan or the compiler, not this file.
+-- `compiled_sum_runs::runs::on_share` meets its contract, run by run.
+use mathlib.Core.Path.{ap}
+use mathlib.Core.List.{[], _∷_}
+use Prim.Native.Nat.{ℕ}
+use native.Mathlib.Omega.{arith}
+use denote.Ref.{now}
+use lib.ListN.{getD}
+use borrow.Author.Needs.{needs}
+use Rattle.compiled.proofs.Reorder.{in-order}
+use Rattle.compiled.proofs.Rest.{reached}
+use Rattle.compiled_sum_runs.specs.inner.Runs.{lastRun, runs}
+use Rattle.compiled_sum_runs.proofs.runs.on_share.Statement.{statement}
+use Rattle.compiled_sum_runs.proofs.runs.on_share.Tie as tie
+
+returns : tie.Need-returns
+returns c = rw (c .before .before .before .before .before .before .before .before .before .before .before .before .match .keys1, c .before .before .linear .ensures, c .before .before .before .before .before .before .four .ensures, c .before .before .before .before .before .before .before .before .before .before .eight .ensures)
+
+returns-2 : tie.Need-returns-2
+returns-2 c = rw (c .before .before .before .before .match .keys2, c .before .before .sixteen .ensures)
+
+returns-3 : tie.Need-returns-3
+returns-3 c = rw (c .before .before .before .before .before .before .before .before .match .keys3, c .before .before .four2 .ensures, c .before .before .before .before .before .before .sixteen2 .ensures)
+
+returns-4 : tie.Need-returns-4
+returns-4 c = rw (c .before .before .before .before .before .before .before .before .match .keys4, c .before .before .four3 .ensures, c .before .before .before .before .before .before .sixteen3 .ensures)
+
+returns-5 : tie.Need-returns-5
+returns-5 c = rw (c .before .before .before .before .before .before .before .before .match .keys5, c .before .before .four4 .ensures, c .before .before .before .before .before .before .sixteen4 .ensures)
+
+returns-6 : tie.Need-returns-6
+returns-6 c = rw (c .before .before .before .before .before .before .before .before .match .keys6, c .before .before .linear2 .ensures, c .before .before .before .before .before .before .sixteen5 .ensures)
+
+returns-7 : tie.Need-returns-7
+returns-7 c = rw (c .before .before .before .before .before .before .before .before .before .before .before .before .before .before .before .before .before .before .before .before .match .keys7, c .before .before .linear3 .ensures, c .before .before .before .before .before .before .two .ensures, c .before .before .before .before .before .before .before .before .before .before .four5 .ensures, c .before .before .before .before .before .before .before .before .before .before .before .before .before .before .eight2 .ensures, c .before .before .before .before .before .before .before .before .before .before .before .before .before .before .before .before .before .before .sixteen6 .ensures)
+
+returns-8 : tie.Need-returns-8
+returns-8 c = in-order (1345591352 ∷ 1614027320 ∷ 1614288958 ∷ 1345854472 ∷ 540285454 ∷ 1345591809 ∷ 537921549 ∷ 1345329154 ∷ 1614023231 ∷ 1613764618 ∷ 1345329160 ∷ 537921549 ∷ 1614284806 ∷ 1345598015 ∷ 1611925505 ∷ 1614027322 ∷ 1880361472 ∷ 1611926022 ∷ 1343490566 ∷ 540548109 ∷ 1614033424 ∷ 539234828 ∷ 1345591871 ∷ 1613763074 ∷ 540021260 ∷ 1614027321 ∷ 540547598 ∷ 1077419008 ∷ 1345854520 ∷ 1614289976 ∷ 1614027780 ∷ 538184205 ∷ 1345592380 ∷ 1614027324 ∷ 540022797 ∷ []) (getD runs 7 lastRun) (c .before .before .before .before .before .before .before .before .before .before .before .before .before .before .before .before .before .before .args .i) (now (c .before .before .before .before .before .before .before .before .before .before .before .before .before .before .before .before .before .before .args .cells)) (rw (c .before .before .linear4 .ensures, c .before .before .before .before .before .before .two2 .ensures, c .before .before .before .before .before .before .before .before .before .before .sixteen8 .ensures, c .before .before .before .before .before .before .before .before .before .before .before .before .before .before .sixteen7 .ensures)) (ap (λ (k : ℕ). getD runs k lastRun) (c .before .before .before .before .before .before .before .before .before .before .before .before .before .before .before .before .match .keys8)) tt
+
+returns-9 : tie.Need-returns-9
+returns-9 c = in-order (1345853498 ∷ 1614289978 ∷ 540022798 ∷ 539234828 ∷ 1613763076 ∷ 1611925506 ∷ 540022793 ∷ 1880361472 ∷ []) (getD runs 8 lastRun) (c .before .before .before .before .before .before .args .i) (now (c .before .before .before .before .before .before .args .cells)) (rw (c .before .before .eight3 .ensures)) (ap (λ (k : ℕ). getD runs k lastRun) (c .before .before .before .before .match .keys9)) tt
+
+returns-10 : tie.Need-returns-10
+returns-10 c = in-order (539236361 ∷ 1611925507 ∷ 1880361472 ∷ 1613763080 ∷ 540022793 ∷ []) (getD runs 9 lastRun) (c .before .before .before .before .before .before .before .before .before .before .args .i) (now (c .before .before .before .before .before .before .before .before .before .before .args .cells)) (rw (c .before .before .linear5 .ensures, c .before .before .before .before .before .before .four6 .ensures)) (ap (λ (k : ℕ). getD runs k lastRun) (c .before .before .before .before .before .before .before .before .match .keys10)) tt
+
+returns-11 : tie.Need-returns-11
+returns-11 c = rw (c .before .before .before .before .before .before .before .before .before .before .before .before .match .keys11, c .before .before .linear6 .ensures, c .before .before .before .before .before .before .four7 .ensures, c .before .before .before .before .before .before .before .before .before .before .eight4 .ensures)
+
+returns-12 : tie.Need-returns-12
+returns-12 c = in-order (539236361 ∷ 1611925509 ∷ 1880361472 ∷ 1614026768 ∷ 540022797 ∷ 1614026784 ∷ 540022797 ∷ 1345329200 ∷ 1613764640 ∷ 539497484 ∷ 1613763104 ∷ 540021260 ∷ []) (getD runs 11 lastRun) (c .before .before .before .before .before .before .before .before .before .before .args .i) (now (c .before .before .before .before .before .before .before .before .before .before .args .cells)) (rw (c .before .before .four8 .ensures, c .before .before .before .before .before .before .eight5 .ensures)) (ap (λ (k : ℕ). getD runs k lastRun) (c .before .before .before .before .before .before .before .before .match .keys12)) tt
+
+returns-13 : tie.Need-returns-13
+returns-13 c = rw (c .before .before .before .before .before .before .before .before .before .before .before .before .match .keys13, c .before .before .two3 .ensures, c .before .before .before .before .before .before .four9 .ensures, c .before .before .before .before .before .before .before .before .before .before .eight6 .ensures)
+
+pub on-share-spec : {M : Type 1} → statement M
+on-share-spec =
+    tie.close (tie.spec
+    (λ c κs. c .before .before .before .pre) (λ c κs. search needs) (λ c κs. search needs) (λ c κs. c .before .before .before .pre)
+    (λ c κs. c .before .before .before .pre) (λ c κs. search needs) (λ c κs. c .before .before .before .pre) (λ c κs. search needs)
+    (λ c κs. c .before .before .before .pre) (λ c κs. search needs) (λ c κs. c .before .before .before .pre) (λ c κs. search needs)
+    (λ c κs. c .before .before .before .pre) (λ c κs. search needs) (λ c κs. search needs) (λ c κs. search needs) (λ c κs. search needs)
+    (λ c κs. c .before .before .before .pre) (λ c κs. search needs) (λ c κs. search needs) (λ c κs. search needs)
+    (λ c κs. c .before .before .before .pre) (λ c κs. c .before .before .before .pre) (λ c κs. search needs)
+    (λ c κs. c .before .before .before .pre) (λ c κs. search needs) (λ c κs. search needs) (λ c κs. c .before .before .before .pre)
+    (λ c κs. search needs) (λ c κs. c .before .before .before .pre) (λ c κs. search needs) (λ c κs. search needs)
+    (λ c κs. (reached 0 13 _ (c .before .match .rest) (omega arith), c .before .before .before .pre .0, c .before .before .before .pre .1))
+    (λ c. search needs) returns (λ c. search needs) returns-2 (λ c. search needs) returns-3 (λ c. search needs) returns-4
+    (λ c. search needs) returns-5 (λ c. search needs) returns-6 (λ c. search needs) returns-7 (λ c. search needs) returns-8
+    (λ c. search needs) returns-9 (λ c. search needs) returns-10 (λ c. search needs) returns-11 (λ c. search needs) returns-12
+    (λ c. search needs) returns-13 (λ c. search needs) (λ c. search needs))
