@@ -12,7 +12,7 @@ import shutil
 import sys
 
 from plan_cut import ROOT, Plan, refuse
-from plan_text import parts, piece_parts
+from plan_text import parts, piece_parts, runs_spec
 
 TEXTS = os.path.join(ROOT, "tools", "compiled")
 
@@ -29,27 +29,29 @@ def texts(folder):
 
 
 def crates_of(plan):
-    """the files of the plan's crate, and of the one of its runs where it is long: the texts with the plan's parts put in"""
+    """the files of the plan's crate, and of those of its runs where it is long: the texts with the plan's parts put in"""
+    first, *later = plan.pieces
     common = {path: text for path, text in texts(TEXTS).items() if path.split(os.sep)[0] in ("src", "specs", "proofs")}
-    runs = {path: common.pop(path) for path in list(common) if path == "src/runs.rt" or path.startswith(("specs/", "proofs/runs/"))}
-    runs = filled(runs, piece_parts(plan, plan.pieces[0])) | pieces(plan)
+    specs = {path: common.pop(path) for path in list(common) if path.startswith("specs/")}
+    runs = {path: common.pop(path) for path in list(common) if path.startswith(("src/runs", "proofs/runs/"))}
     of_one = texts(os.path.join(TEXTS, "of_one")) if plan.operands == 1 else {}
     own = texts(os.path.join(TEXTS, "own")) if plan.own else {}
     with_add = texts(os.path.join(TEXTS, "with_add")) if plan.adds() else {}
     put_in = parts(plan) | {"OF_ONE": of_one.pop("src/calls.rt", ""), "OF_ONE_IN_PLACE": of_one.pop("src/in_place.rt", "")}
-    calls = common | of_one | own | with_add
-    if not plan.long:
-        return {plan.crate: finished(runs | calls, put_in, plan.crate)}
-    return {plan.runs_crate: finished(texts(os.path.join(TEXTS, "long")) | runs, put_in, plan.runs_crate), plan.crate: finished(calls, put_in, plan.crate)}
+    calls, runs = common | of_one | own | with_add, filled(runs, piece_parts(plan, first)) | piece_files(plan, first)
+    if plan.long:
+        crates = {piece.crate: piece_files(plan, piece) for piece in reversed(later)} | {first.crate: runs | texts(os.path.join(TEXTS, "long")), plan.crate: calls}
+        crates[later[-1].crate] |= specs
+    else:
+        crates = {plan.crate: specs | runs | calls}
+    return {crate: finished(files, put_in | {"CRATE": crate, "RUNS_SPEC": runs_spec(plan, crate)}) for crate, files in crates.items()}
 
 
-def pieces(plan):
-    """the functions that do the runs but the first, which stands in runs, and the proofs of all"""
-    given, files = texts(os.path.join(TEXTS, "piece")), {}
-    for piece in plan.pieces:
-        made = {f"proofs/{piece.file}/{piece.function}/Proof.antt": given["proofs/on_share.antt"]} | ({f"src/{piece.file}.rt": given["src/from.rt"]} if piece.at else {})
-        files |= filled(made, piece_parts(plan, piece))
-    return files
+def piece_files(plan, piece):
+    """the proof of a function that does runs; the first stands in the file runs, another in a crate of its own"""
+    given = texts(os.path.join(TEXTS, "piece"))
+    files = {"/".join(["proofs"] + piece.place + ["Proof.antt"]): given["proofs/on_share.antt"]} | ({"src/lib.rt": given["src/lib.rt"]} if piece.at else {})
+    return filled(files, piece_parts(plan, piece))
 
 
 def filled(files, put_in):
@@ -58,9 +60,8 @@ def filled(files, put_in):
     return files
 
 
-def finished(files, put_in, crate):
-    files = filled(files, put_in | {"CRATE": crate})
-    files = filled(files, {name: put_in[name] for name in ("WRITTEN", "PLAN", "TITLE", "MODULE")} | {"CRATE": crate})  # they stand in the parts too
+def finished(files, put_in):
+    files = filled(filled(files, put_in), {name: put_in[name] for name in ("WRITTEN", "PLAN", "RUNS_SPEC", "CRATE", "TITLE", "MODULE")})  # they stand in the parts too
     return {path: text.replace("\n\n\n", "\n\n") for path, text in files.items()}  # where a part is empty
 
 

@@ -18,22 +18,28 @@ def parts(plan):
 
 
 def runs_at(plan):
-    """the runs of a long plan are a crate of their own"""
+    """the runs of a long plan are in crates of their own"""
     if not plan.long:
-        return {"RUNS": "runs", "RUNS_FOR": "pub(crate)", "RUNS_MOD": "mod runs;\n", "RUNS_SPEC": "Rattle·@CRATE@·specs.specs.inner.Runs",
-                "INNER": ", and it cut at its ANDs and ADDs (inner), which no contract cites", "INNER_MOD": "pub mod inner\n"}
-    mods = "".join(f"mod {piece.file};\n" for piece in plan.pieces[1:])
-    return {"RUNS": plan.runs_crate, "RUNS_FOR": "pub", "RUNS_MOD": "", "RUNS_SPEC": f"Rattle.{plan.runs_crate}.specs.inner.Runs", "INNER": "", "INNER_MOD": "", "PIECE_MODS": mods}
+        return {"RUNS": "runs", "RUNS_FOR": "pub(crate)", "RUNS_MOD": "mod runs;\n", "INNER": ", and it cut at its ANDs and ADDs (inner), which no contract cites", "INNER_MOD": "pub mod inner\n"}
+    return {"RUNS": plan.pieces[0].crate, "RUNS_FOR": "pub", "RUNS_MOD": "", "INNER": "", "INNER_MOD": ""}
+
+
+def runs_spec(plan, crate):
+    """where a crate finds the definition of the runs: it is in the crate of the last piece"""
+    last = plan.pieces[-1].crate
+    return f"Rattle.{last}.specs.inner.Runs" if crate == last else f"Rattle.{last}.specs.inner.Runs"
 
 
 def piece_parts(plan, piece):
     """the parts of a function that does runs, and of its proof"""
-    return {"FILE": piece.file, "FUNCTION": piece.function, "FUNCTION_NAME": piece.function.replace("_", "-"), "AT": str(piece.at)} | code(plan, piece) | on_share_proof(plan, piece)
+    function = piece.place[-1]
+    return {"FUNCTION": function, "FUNCTION_NAME": function.replace("_", "-"), "PLACE": "::".join(piece.place), "PLACE_IN_PROOFS": ".".join(piece.place),
+            "AT": str(piece.at)} | code(plan, piece) | on_share_proof(plan, piece)
 
 
 def gate_kind(plan):
     """a plan without ADD links none"""
-    runs = "".join(f"use {plan.runs_crate if plan.long else 'crate'}::runs::{name};\n" for name in ("gate", "run"))
+    runs = "".join(f"use {plan.pieces[0].crate if plan.long else 'crate'}::runs::{name};\n" for name in ("gate", "run"))
     if not plan.adds():
         return {"GATE_DONE": "and_done", "GATE_NAME": "and-done", "GATE_KIND": "(λ k. eqb k 3)", "KIND_USE": "", "KIND_EQB": "eqb, ",
                 "SHOW_KIND": "eqb→eq _ 3 (G .1)", "SHOW_USE": "use lib.Dec.{eqb→eq}\n", "GATE_MOD": "",
@@ -100,8 +106,8 @@ def code(plan, piece):
     used = sorted({name for arm in piece.arms for name, _ in plan.calls(arm)})
     arms, uses = [line for arm in piece.arms for line in arm_lines(plan, arm)], [f"use compiled::linear::{name};" for name in used]
     if piece.next:
-        arms.append(f"        _ => {piece.next.function}(k, i, cells),")
-        uses.insert(0, f"use crate::{piece.next.file}::{piece.next.function};")
+        arms.append(f"        _ => {piece.next.place[-1]}(k, i, cells),")
+        uses.append(f"use {piece.next.crate}::{piece.next.place[-1]};")
     return {"USES": "\n".join(uses), "ARMS": "\n".join(arms)}
 
 
@@ -179,7 +185,7 @@ def sizes(piece, steps):
 
 
 def on_share_uses(plan, piece):
-    spec, rows = "Rattle·@CRATE@·specs.specs.inner.Runs", plan.rows
+    rows = plan.rows
     single, numbered = any(arm.order for arm in piece.arms if arm is not rows), rows and rows.order
     last = piece.at and not piece.next
     paths = "_≡_, refl, ap, _∙_" if rows else ", ".join((["refl"] if last else []) + (["ap"] if single else []))
@@ -192,7 +198,7 @@ def on_share_uses(plan, piece):
     uses += ["use borrow.Author.Needs.{needs}"]
     uses += ["use Rattle.compiled.proofs.Reorder.{" + ("at, " if numbered else "") + "in-order" + (", reorders" if numbered else "") + "}"] if single or numbered else []
     uses += ["use Rattle.compiled.proofs.Rest.{" + ("between, numbered" if rows else "reached" if piece.next else "past-from" if piece.at else "past") + "}"]
-    return "\n".join(uses + ([f"use {spec}.{{" + ("after, first, lastRun, row, runs" if rows else "lastRun, runs") + "}"] if single or not piece.next else []))
+    return "\n".join(uses + (["use @RUNS_SPEC@.{" + ("after, first, lastRun, row, runs" if rows else "lastRun, runs") + "}"] if single or not piece.next else []))
 
 
 def numbered_run(plan):

@@ -9,7 +9,7 @@ use lib.ListN.{getD}
 use borrow.Author.Needs.{needs}
 use Rattle.compiled.proofs.Reorder.{in-order}
 use Rattle.compiled.proofs.Rest.{reached}
-use Rattle.compiled_sum_runs.specs.inner.Runs.{lastRun, runs}
+use Rattle.compiled_sum_from_27.specs.inner.Runs.{lastRun, runs}
 use Rattle.compiled_sum_runs.proofs.runs.on_share.Statement.{statement}
 use Rattle.compiled_sum_runs.proofs.runs.on_share.Tie as tie
 
@@ -52,6 +52,48 @@ returns-12 c = in-order (539236361 ∷ 1611925509 ∷ 1880361472 ∷ 1614026768 
 returns-13 : tie.Need-returns-13
 returns-13 c = rw (c .before .before .before .before .before .before .before .before .before .before .before .before .match .keys13, c .before .before .two3 .ensures, c .before .before .before .before .before .before .four9 .ensures, c .before .before .before .before .before .before .before .before .before .before .eight6 .ensures)
 
+returns-14 : tie.Need-returns-14
+returns-14 c = rw (c .before .before .before .before .before .before .before .before .match .keys14, c .before .before .linear7 .ensures, c .before .before .before .before .before .before .eight7 .ensures)
+
+returns-15 : tie.Need-returns-15
+returns-15 c = rw (c .before .before .before .before .before .before .before .before .match .keys15, c .before .before .linear8 .ensures, c .before .before .before .before .before .before .two4 .ensures)
+
+returns-16 : tie.Need-returns-16
+returns-16 c = rw (c .before .before .before .before .before .before .before .before .match .keys16, c .before .before .two5 .ensures, c .before .before .before .before .before .before .four10 .ensures)
+
+returns-17 : tie.Need-returns-17
+returns-17 c = in-order (1345328129 ∷ 1076630016 ∷ 1074796032 ∷ 1611930632 ∷ 1614022666 ∷ 1345591818 ∷ 1345854520 ∷ 540022789 ∷ 1614289976 ∷ 540285454 ∷ []) (getD runs 16 lastRun) (c .before .before .before .before .before .before .before .before .before .before .args .i) (now (c .before .before .before .before .before .before .before .before .before .before .args .cells)) (rw (c .before .before .two6 .ensures, c .before .before .before .before .before .before .eight8 .ensures)) (ap (λ (k : ℕ). getD runs k lastRun) (c .before .before .before .before .before .before .before .before .match .keys17)) tt
+
+returns-18 : tie.Need-returns-18
+returns-18 c = in-order (1346639361 ∷ 1345853494 ∷ 1614289974 ∷ 540023820 ∷ 539497484 ∷ []) (getD runs 17 lastRun) (c .before .before .before .before .before .before .before .before .before .before .args .i) (now (c .before .before .before .before .before .before .before .before .before .before .args .cells)) (rw (c .before .before .linear9 .ensures, c .before .before .before .before .before .before .four11 .ensures)) (ap (λ (k : ℕ). getD runs k lastRun) (c .before .before .before .before .before .before .before .before .match .keys18)) tt
+
+returns-19 : tie.Need-returns-19
+returns-19 c = in-order (539763211 ∷ 1074796032 ∷ 1614022666 ∷ 1345328130 ∷ 1345591818 ∷ 1611930628 ∷ 540022789 ∷ 540285965 ∷ []) (getD runs 18 lastRun) (c .before .before .before .before .before .before .args .i) (now (c .before .before .before .before .before .before .args .cells)) (rw (c .before .before .eight9 .ensures)) (ap (λ (k : ℕ). getD runs k lastRun) (c .before .before .before .before .match .keys19)) tt
+
+returns-20 : tie.Need-returns-20
+returns-20 c = in-order (1345853494 ∷ 1346639362 ∷ 1614289974 ∷ 540023820 ∷ 539498506 ∷ []) (getD runs 19 lastRun) (c .before .before .before .before .before .before .before .before .before .before .args .i) (now (c .before .before .before .before .before .before .before .before .before .before .args .cells)) (rw (c .before .before .linear10 .ensures, c .before .before .before .before .before .before .four12 .ensures)) (ap (λ (k : ℕ). getD runs k lastRun) (c .before .before .before .before .before .before .before .before .match .keys20)) tt
+
+returns-21 : tie.Need-returns-21
+returns-21 c = in-order (539760145 ∷ 1345328132 ∷ 1074796032 ∷ 1614022666 ∷ 1611930626 ∷ 540022789 ∷ 1345591818 ∷ 540285454 ∷ []) (getD runs 20 lastRun) (c .before .before .before .before .before .before .args .i) (now (c .before .before .before .before .before .before .args .cells)) (rw (c .before .before .eight10 .ensures)) (ap (λ (k : ℕ). getD runs k lastRun) (c .before .before .before .before .match .keys21)) tt
+
+returns-22 : tie.Need-returns-22
+returns-22 c = in-order (1345853494 ∷ 1346639364 ∷ 1614289974 ∷ 540022798 ∷ 539498506 ∷ []) (getD runs 21 lastRun) (c .before .before .before .before .before .before .before .before .before .before .args .i) (now (c .before .before .before .before .before .before .before .before .before .before .args .cells)) (rw (c .before .before .linear11 .ensures, c .before .before .before .before .before .before .four13 .ensures)) (ap (λ (k : ℕ). getD runs k lastRun) (c .before .before .before .before .before .before .before .before .match .keys22)) tt
+
+returns-23 : tie.Need-returns-23
+returns-23 c = in-order (539760145 ∷ 1074796032 ∷ 1611930625 ∷ 1614022666 ∷ 1345591818 ∷ 1345328136 ∷ 540285965 ∷ 540022789 ∷ []) (getD runs 22 lastRun) (c .before .before .before .before .before .before .args .i) (now (c .before .before .before .before .before .before .args .cells)) (rw (c .before .before .eight11 .ensures)) (ap (λ (k : ℕ). getD runs k lastRun) (c .before .before .before .before .match .keys23)) tt
+
+returns-24 : tie.Need-returns-24
+returns-24 c = in-order (1345853494 ∷ 1346639368 ∷ 1614289974 ∷ 540023820 ∷ 539498506 ∷ []) (getD runs 23 lastRun) (c .before .before .before .before .before .before .before .before .before .before .args .i) (now (c .before .before .before .before .before .before .before .before .before .before .args .cells)) (rw (c .before .before .linear12 .ensures, c .before .before .before .before .before .before .four14 .ensures)) (ap (λ (k : ℕ). getD runs k lastRun) (c .before .before .before .before .before .before .before .before .match .keys24)) tt
+
+returns-25 : tie.Need-returns-25
+returns-25 c = in-order (539763211 ∷ 1074796032 ∷ 269746177 ∷ 540543502 ∷ 1345328144 ∷ 1614022666 ∷ 540022799 ∷ 1345591818 ∷ 540285454 ∷ []) (getD runs 24 lastRun) (c .before .before .before .before .before .before .before .before .before .before .args .i) (now (c .before .before .before .before .before .before .before .before .before .before .args .cells)) (rw (c .before .before .linear13 .ensures, c .before .before .before .before .before .before .eight12 .ensures)) (ap (λ (k : ℕ). getD runs k lastRun) (c .before .before .before .before .before .before .before .before .match .keys25)) tt
+
+returns-26 : tie.Need-returns-26
+returns-26 c = in-order (1346115638 ∷ 1346639376 ∷ 1614552630 ∷ 540024332 ∷ 539497484 ∷ []) (getD runs 25 lastRun) (c .before .before .before .before .before .before .before .before .before .before .args .i) (now (c .before .before .before .before .before .before .before .before .before .before .args .cells)) (rw (c .before .before .linear14 .ensures, c .before .before .before .before .before .before .four15 .ensures)) (ap (λ (k : ℕ). getD runs k lastRun) (c .before .before .before .before .before .before .before .before .match .keys26)) tt
+
+returns-27 : tie.Need-returns-27
+returns-27 c = rw (c .before .before .before .before .before .before .before .before .match .keys27, c .before .before .linear15 .ensures, c .before .before .before .before .before .before .eight13 .ensures)
+
 pub on-share-spec : {M : Type 1} → statement M
 on-share-spec =
     tie.close (tie.spec
@@ -63,8 +105,18 @@ on-share-spec =
     (λ c κs. c .before .before .before .pre) (λ c κs. c .before .before .before .pre) (λ c κs. search needs)
     (λ c κs. c .before .before .before .pre) (λ c κs. search needs) (λ c κs. search needs) (λ c κs. c .before .before .before .pre)
     (λ c κs. search needs) (λ c κs. c .before .before .before .pre) (λ c κs. search needs) (λ c κs. search needs)
-    (λ c κs. (reached 0 13 _ (c .before .match .rest) (omega arith), c .before .before .before .pre .0, c .before .before .before .pre .1))
+    (λ c κs. c .before .before .before .pre) (λ c κs. search needs) (λ c κs. c .before .before .before .pre) (λ c κs. search needs)
+    (λ c κs. c .before .before .before .pre) (λ c κs. search needs) (λ c κs. c .before .before .before .pre) (λ c κs. search needs)
+    (λ c κs. c .before .before .before .pre) (λ c κs. search needs) (λ c κs. c .before .before .before .pre)
+    (λ c κs. c .before .before .before .pre) (λ c κs. search needs) (λ c κs. c .before .before .before .pre)
+    (λ c κs. c .before .before .before .pre) (λ c κs. search needs) (λ c κs. c .before .before .before .pre)
+    (λ c κs. c .before .before .before .pre) (λ c κs. search needs) (λ c κs. c .before .before .before .pre) (λ c κs. search needs)
+    (λ c κs. c .before .before .before .pre) (λ c κs. search needs) (λ c κs. c .before .before .before .pre) (λ c κs. search needs)
+    (λ c κs. (reached 0 27 _ (c .before .match .rest) (omega arith), c .before .before .before .pre .0, c .before .before .before .pre .1))
     (λ c. search needs) returns (λ c. search needs) returns-2 (λ c. search needs) returns-3 (λ c. search needs) returns-4
     (λ c. search needs) returns-5 (λ c. search needs) returns-6 (λ c. search needs) returns-7 (λ c. search needs) returns-8
     (λ c. search needs) returns-9 (λ c. search needs) returns-10 (λ c. search needs) returns-11 (λ c. search needs) returns-12
-    (λ c. search needs) returns-13 (λ c. search needs) (λ c. search needs))
+    (λ c. search needs) returns-13 (λ c. search needs) returns-14 (λ c. search needs) returns-15 (λ c. search needs) returns-16
+    (λ c. search needs) returns-17 (λ c. search needs) returns-18 (λ c. search needs) returns-19 (λ c. search needs) returns-20
+    (λ c. search needs) returns-21 (λ c. search needs) returns-22 (λ c. search needs) returns-23 (λ c. search needs) returns-24
+    (λ c. search needs) returns-25 (λ c. search needs) returns-26 (λ c. search needs) returns-27 (λ c. search needs) (λ c. search needs))

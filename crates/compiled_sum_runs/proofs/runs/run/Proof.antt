@@ -9,7 +9,7 @@ use borrow.Author.Needs.{needs}
 use Rattle.masking.specs.Translation.{shares, upFrom}
 use Rattle.compiled.specs.inner.OnShare.{shareByShare}
 use Rattle.compiled.proofs.Turn.{begin, turn, end}
-use Rattle.compiled_sum_runs.specs.inner.Runs.{lastRun, runs}
+use Rattle.compiled_sum_from_27.specs.inner.Runs.{lastRun, runs}
 use Rattle.compiled_sum_runs.proofs.runs.run.Statement.{statement}
 use Rattle.compiled_sum_runs.proofs.runs.run.Tie as tie
 
