@@ -6,6 +6,7 @@ import re
 ROOT = os.path.dirname(os.path.dirname(os.path.abspath(__file__)))
 SIZES = [(16, "sixteen"), (8, "eight"), (4, "four"), (2, "two"), (1, "linear")]
 CONST, XOR, AND, NOT, SHL, SHR, SPREAD, ADD = range(1, 9)
+MOST = 27  # arms of a match, and of a crate: the time to check more grows faster than they do
 
 
 def refuse(text):
@@ -139,6 +140,24 @@ def arms_of(runs):
     return arms
 
 
+class Piece:
+    """Arms in a row as one function: the first has all runs to do, another those from run `at` on. What is past its keys it leaves to the next piece, None for the
+    last. Where there are more than one each is in a crate of its own."""
+
+    def __init__(self, plan_crate, arms, alone, next_piece):
+        self.arms, self.at, self.next = arms, min(arm.first for arm in arms), next_piece
+        self.crate = plan_crate + ("" if alone else "_from_%d" % self.at if self.at else "_runs")
+        self.place = ["from_%d" % self.at] if self.at else ["runs", "on_share"]
+
+
+def pieces_of(crate, arms):
+    """the arms in as few pieces as may be, all of about the same length"""
+    count, pieces = -(-len(arms) // MOST), []
+    for number in reversed(range(count)):
+        pieces.insert(0, Piece(crate, arms[number * len(arms) // count:(number + 1) * len(arms) // count], count == 1, pieces[0] if pieces else None))
+    return pieces
+
+
 def calls_of(words):
     calls, at = [], 0
     while at < len(words):
@@ -201,6 +220,8 @@ class Plan:
         self.arms = arms_of(self.runs)
         put_in_order(name, self.arms, section.get("order", ""))
         self.rows = next((arm for arm in self.arms if arm.place is not None), None)
+        self.pieces = [Piece(self.crate, self.ordered(), True, None)] if self.rows else pieces_of(self.crate, self.arms)
+        self.long = len(self.pieces) > 1
         self.units = sum(1 if word >> 28 == AND else 12 for word in self.gates)
         self.alike = next((k for k, word in enumerate(self.gates) if word != self.gates[0]), len(self.gates))  # gates at the start that are the same word
 

@@ -14,18 +14,39 @@ def parts(plan):
         "PUB": "" if plan.operands == 1 else "pub ", "ZEROS": ", zerosFor" if plan.operands == 1 else "",
         "ONE_OPERAND": "use masked_call::one_operand::NONE;\nuse masked_call::one_operand::at_most_eight;\n" if plan.operands == 1 else "",
         "BELOW": f"(k < {len(plan.runs)}) × " if rows else "", "SHOW_BELOW": "omega arith, " if rows else "", "SIZE": "2" if rows else "1",
-    } | gate_kind(plan) | lists(plan) | code(plan) | on_share_proof(plan) | gate_proof(plan)
+    } | runs_at(plan) | gate_kind(plan) | lists(plan) | gate_code(plan) | gate_proof(plan)
+
+
+def runs_at(plan):
+    """the runs of a long plan are in crates of their own"""
+    if not plan.long:
+        return {"RUNS": "runs", "RUNS_FOR": "pub(crate)", "RUNS_MOD": "mod runs;\n", "INNER": ", and it cut at its ANDs and ADDs (inner), which no contract cites", "INNER_MOD": "pub mod inner\n"}
+    return {"RUNS": plan.pieces[0].crate, "RUNS_FOR": "pub", "RUNS_MOD": "", "INNER": "", "INNER_MOD": ""}
+
+
+def runs_spec(plan, crate):
+    """where a crate finds the definition of the runs: it is in the crate of the last piece"""
+    last = plan.pieces[-1].crate
+    return f"Rattle.{last}.specs.inner.Runs" if crate == last else f"Rattle.{last}.specs.inner.Runs"
+
+
+def piece_parts(plan, piece):
+    """the parts of a function that does runs, and of its proof"""
+    function = piece.place[-1]
+    return {"FUNCTION": function, "FUNCTION_NAME": function.replace("_", "-"), "PLACE": "::".join(piece.place), "PLACE_IN_PROOFS": ".".join(piece.place),
+            "AT": str(piece.at)} | code(plan, piece) | on_share_proof(plan, piece)
 
 
 def gate_kind(plan):
     """a plan without ADD links none"""
+    runs = "".join(f"use {plan.pieces[0].crate if plan.long else 'crate'}::runs::{name};\n" for name in ("gate", "run"))
     if not plan.adds():
         return {"GATE_DONE": "and_done", "GATE_NAME": "and-done", "GATE_KIND": "(λ k. eqb k 3)", "KIND_USE": "", "KIND_EQB": "eqb, ",
                 "SHOW_KIND": "eqb→eq _ 3 (G .1)", "SHOW_USE": "use lib.Dec.{eqb→eq}\n", "GATE_MOD": "",
-                "GATE_USE": "use crate::runs::gate;\nuse crate::runs::run;\nuse gates::gates::and_done;\n"}
+                "GATE_USE": f"{runs}use gates::gates::and_done;\n"}
     return {"GATE_DONE": "gate_done", "GATE_NAME": "gate-done", "GATE_KIND": "isGate", "KIND_USE": "use Rattle.gates.specs.inner.PlanWords.{isGate}\n",
             "KIND_EQB": "", "SHOW_KIND": "G .1", "SHOW_USE": "", "GATE_MOD": "mod gates;\n",
-            "GATE_USE": "use crate::gates::gate_done;\nuse crate::runs::gate;\nuse crate::runs::run;\n"}
+            "GATE_USE": f"use crate::gates::gate_done;\n{runs}"}
 
 
 def listed(words):
@@ -81,13 +102,20 @@ after =
 
 # ---- code
 
-def code(plan):
-    used = sorted({name for arm in plan.arms for name, _ in plan.calls(arm)})
-    arms = [line for arm in plan.ordered() for line in arm_lines(plan, arm)]
+def code(plan, piece):
+    used = sorted({name for arm in piece.arms for name, _ in plan.calls(arm)})
+    arms, uses = [line for arm in piece.arms for line in arm_lines(plan, arm)], [f"use compiled::linear::{name};" for name in used]
+    if piece.next:
+        arms.append(f"        _ => {piece.next.place[-1]}(k, i, cells),")
+        uses.append(f"use {piece.next.crate}::{piece.next.place[-1]};")
+    return {"USES": "\n".join(uses), "ARMS": "\n".join(arms)}
+
+
+def gate_code(plan):
     keyed = range(plan.alike, len(plan.gates)) if plan.rows else range(len(plan.gates) - 1)
     rest = plan.gates[0] if plan.rows else plan.gates[-1]
     gates = [f"        {k} => {hexed(plan.gates[k])}," for k in keyed] + [f"        _ => {hexed(rest)},"]
-    return {"USES": "\n".join(f"use compiled::linear::{name};" for name in used), "ARMS": "\n".join(arms), "GATE_ARMS": "\n".join(gates)}
+    return {"GATE_ARMS": "\n".join(gates)}
 
 
 def arm_lines(plan, arm):
@@ -114,20 +142,23 @@ def before(steps):
     return "c" + " .before" * steps
 
 
-def on_share_proof(plan):
+def on_share_proof(plan, piece):
     seen, needs, ends, returns = {}, [], [], []
-    for number, arm in enumerate(plan.ordered()):
+    for number, arm in enumerate(piece.arms):
         places = []
         for name, words in plan.calls(arm):
             seen[name] = seen.get(name, 0) + 1
-            needs += asked(plan, arm, words, len(places))
+            needs += asked(plan, piece, arm, words, len(places))
             places.append(name + ("" if seen[name] == 1 else str(seen[name])))
         count = len(places)
-        run, calls = run_fact(plan, arm, number, count), [f"{before(2 + 4 * (count - 1 - l))} .{places[l]} .ensures" for l in reversed(range(count))]
+        run, calls = run_fact(plan, piece, arm, number, count), [f"{before(2 + 4 * (count - 1 - l))} .{places[l]} .ensures" for l in reversed(range(count))]
         need = "returns" + ("" if number == 0 else f"-{number + 1}")
         ends += [SEARCH, need] if count else [need]
         returns.append(f"{need} : tie.Need-{need}\n{need} c = {shown(plan, arm, run, calls)}\n")
-    return {"ON_SHARE_USES": on_share_uses(plan), "NUMBERED": numbered_run(plan), "RETURNS": "\n".join(returns), "ON_SHARE_ENDS": wrapped(needs + ends)}
+    if piece.next:
+        needs.append(f"(λ c κs. (reached {piece.at} {len(piece.arms)} _ ({before(1)} .match .rest) ({not_below(piece, 3)}), {', '.join(sizes(piece, 3))}))")
+        ends += [SEARCH, SEARCH]
+    return {"ON_SHARE_USES": on_share_uses(plan, piece), "NUMBERED": numbered_run(plan), "RETURNS": "\n".join(returns), "ON_SHARE_ENDS": wrapped(needs + ends)}
 
 
 def shown(plan, arm, run, calls):
@@ -143,18 +174,31 @@ def shown(plan, arm, run, calls):
     return f"in-order (row-done {q}) (row {q}) ({given} .i) (now ({given} .cells)) (rw ({', '.join(calls)})) ({run}) ({test})"
 
 
-def on_share_uses(plan):
-    spec, rows = "Rattle·@CRATE@·specs.specs.inner.Runs", plan.rows
-    single, numbered = any(arm.order for arm in plan.arms if arm is not rows), rows and rows.order
-    uses = ["use mathlib.Core.Path.{_≡_, refl, ap, _∙_}"] if rows else ["use mathlib.Core.Path.{ap}"] if single else []
+def not_below(piece, steps):
+    """that the piece has run k to do, `steps` after its beginning"""
+    return f"{before(steps)} .pre .0" if piece.at else "omega arith"
+
+
+def sizes(piece, steps):
+    """what else is asked of a piece"""
+    return [f"{before(steps)} .pre .{place + (1 if piece.at else 0)}" for place in (0, 1)]
+
+
+def on_share_uses(plan, piece):
+    rows = plan.rows
+    single, numbered = any(arm.order for arm in piece.arms if arm is not rows), rows and rows.order
+    last = piece.at and not piece.next
+    paths = "_≡_, refl, ap, _∙_" if rows else ", ".join((["refl"] if last else []) + (["ap"] if single else []))
+    uses = ["use mathlib.Core.Path.{" + paths + "}"] if paths else []
     uses += ["use mathlib.Core.List.{" + ("List, " if numbered else "") + "[], _∷_}"] if single or numbered else []
     uses += ["use Prim.Native.Nat.{ℕ, " + ("_+_, " if numbered else "") + "_-_, _≤_, _<_}", "use native.Mathlib.Omega.{arith}"] if rows else ["use Prim.Native.Nat.{ℕ}"] if single else []
+    uses += ["use native.Mathlib.Omega.{arith}"] if piece.next and not piece.at else []
     uses += ["use denote.Ref.{now}"] if single or numbered else []
     uses += ["use lib.ListN.{getD}"] if rows or single else []
     uses += ["use borrow.Author.Needs.{needs}"]
     uses += ["use Rattle.compiled.proofs.Reorder.{" + ("at, " if numbered else "") + "in-order" + (", reorders" if numbered else "") + "}"] if single or numbered else []
-    uses += ["use Rattle.compiled.proofs.Rest.{" + ("between, numbered" if rows else "past") + "}"]
-    return "\n".join(uses + [f"use {spec}.{{" + ("after, first, lastRun, row, runs" if rows else "lastRun, runs") + "}"])
+    uses += ["use Rattle.compiled.proofs.Rest.{" + ("between, numbered" if rows else "reached" if piece.next else "past-from" if piece.at else "past") + "}"]
+    return "\n".join(uses + (["use @RUNS_SPEC@.{" + ("after, first, lastRun, row, runs" if rows else "lastRun, runs") + "}"] if single or not piece.next else []))
 
 
 def numbered_run(plan):
@@ -179,19 +223,24 @@ def stands(plan, arm, steps):
     return f"between {arm.first} {arm.last + 1} {len(plan.runs) - arm.last - 1} _ ({before(steps)} .match .rest) ({before(steps + 2)} .pre .0)"
 
 
-def asked(plan, arm, words, calls):
+def asked(plan, piece, arm, words, calls):
     """what a call asks after `calls` others in its arm"""
     if words is None:
         requires = f"(refl, refl, omega (arith, {stands(plan, arm, 4 * calls + 1)}), search needs, search needs)"
         return [f"(λ c. omega (arith, {stands(plan, arm, 4 * calls)}))"] * 2 + [f"(λ c κs. {requires})"]
-    return ["(λ c κs. search needs)"] if calls or plan.rows else [f"(λ c κs. {before(3)} .pre)"]
+    if calls or plan.rows:
+        return ["(λ c κs. search needs)"]
+    return [f"(λ c κs. ({', '.join(sizes(piece, 3))}))" if piece.at else f"(λ c κs. {before(3)} .pre)"]
 
 
-def run_fact(plan, arm, number, count):
+def run_fact(plan, piece, arm, number, count):
     """that run k of the plan is the arm's"""
     if plan.key(arm) != "_":
         return f"{before(4 * count)} .match .keys{number + 1}"
-    return f"numbered-run _ ({stands(plan, arm, 4 * count)})" if plan.rows else f"past runs lastRun _ ({before(4 * count)} .match .rest)"
+    if plan.rows:
+        return f"numbered-run _ ({stands(plan, arm, 4 * count)})"
+    rest = f"({before(4 * count)} .match .rest)"
+    return f"past-from runs lastRun {piece.at} {number} _ refl {rest} ({not_below(piece, 4 * count + 2)})" if piece.at else f"past runs lastRun _ {rest}"
 
 
 def gate_proof(plan):

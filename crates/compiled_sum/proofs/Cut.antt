@@ -14,7 +14,7 @@ use Rattle.masking.proofs.emitted.Counts.{by-count}
 use Rattle.masked_call.specs.inner.Inner.{GoodPlan, TakesTape}
 use Rattle.plans.specs.words.SumPlan.{sumPlan}
 use Rattle.compiled.proofs.Cut.{Cut}
-use Rattle.compiled_sum.specs.inner.Runs.{gates, lastRun, runs}
+use Rattle.compiled_sum_from_27.specs.inner.Runs.{gates, lastRun, runs}
 
 pub cut : Cut (λ k. eqb k 3) runs lastRun gates sumPlan
 unfolding sumPlan put named encoding.row

@@ -1,5 +1,5 @@
 // Written by tools/compile_plan.py: change the plan or the compiler, not this file.
-// The sum's plan on n shares (done), by its runs (runs), and the call over it (calls, in_place).
+// The sum's plan on n shares (done), by its runs (compiled_sum_runs), and the call over it (calls, in_place).
 ghost use mathlib.Core.Path.{_≡_};
 ghost use Prim.Native.Nat.{_≤_};
 ghost use lib.ListN.{length};
@@ -7,13 +7,12 @@ ghost use Rattle.masking.specs.Machine.{stepsOf};
 ghost use Rattle.masking.specs.Translation.{program};
 ghost use Rattle.and_parts.specs.inner.Effects.{Enough, Ran};
 ghost use Rattle.plans.specs.words.SumPlan.{sumPlan};
-use crate::runs::gate;
-use crate::runs::run;
+use compiled_sum_runs::runs::gate;
+use compiled_sum_runs::runs::run;
 use gates::gates::and_done;
 
 pub mod calls;
 pub mod in_place;
-mod runs;
 
 // The plan's words in order, from place `start` of the tape on; the answer is the next place.
 pub fn done(n: usize, tape: &[u64], start: usize, cells: &mut [u64]) -> usize

@@ -1,16 +1,17 @@
 -- Written by tools/compile_plan.py: change the plan or the compiler, not this file.
--- `compiled_sum::runs::on_share` meets its contract, run by run.
+-- `compiled_sum_runs::runs::on_share` meets its contract, run by run.
 use mathlib.Core.Path.{ap}
 use mathlib.Core.List.{[], _∷_}
 use Prim.Native.Nat.{ℕ}
+use native.Mathlib.Omega.{arith}
 use denote.Ref.{now}
 use lib.ListN.{getD}
 use borrow.Author.Needs.{needs}
 use Rattle.compiled.proofs.Reorder.{in-order}
-use Rattle.compiled.proofs.Rest.{past}
-use Rattle.compiled_sum.specs.inner.Runs.{lastRun, runs}
-use Rattle.compiled_sum.proofs.runs.on_share.Statement.{statement}
-use Rattle.compiled_sum.proofs.runs.on_share.Tie as tie
+use Rattle.compiled.proofs.Rest.{reached}
+use Rattle.compiled_sum_from_27.specs.inner.Runs.{lastRun, runs}
+use Rattle.compiled_sum_runs.proofs.runs.on_share.Statement.{statement}
+use Rattle.compiled_sum_runs.proofs.runs.on_share.Tie as tie
 
 returns : tie.Need-returns
 returns c = rw (c .before .before .before .before .before .before .before .before .before .before .before .before .match .keys1, c .before .before .linear .ensures, c .before .before .before .before .before .before .four .ensures, c .before .before .before .before .before .before .before .before .before .before .eight .ensures)
@@ -93,87 +94,6 @@ returns-26 c = in-order (1346115638 ∷ 1346639376 ∷ 1614552630 ∷ 540024332 
 returns-27 : tie.Need-returns-27
 returns-27 c = rw (c .before .before .before .before .before .before .before .before .match .keys27, c .before .before .linear15 .ensures, c .before .before .before .before .before .before .eight13 .ensures)
 
-returns-28 : tie.Need-returns-28
-returns-28 c = rw (c .before .before .before .before .before .before .before .before .match .keys28, c .before .before .two7 .ensures, c .before .before .before .before .before .before .eight14 .ensures)
-
-returns-29 : tie.Need-returns-29
-returns-29 c = rw (c .before .before .before .before .before .before .before .before .before .before .before .before .match .keys29, c .before .before .linear16 .ensures, c .before .before .before .before .before .before .four16 .ensures, c .before .before .before .before .before .before .before .before .before .before .eight15 .ensures)
-
-returns-30 : tie.Need-returns-30
-returns-30 c = rw (c .before .before .before .before .before .before .before .before .match .keys30, c .before .before .linear17 .ensures, c .before .before .before .before .before .before .two8 .ensures)
-
-returns-31 : tie.Need-returns-31
-returns-31 c = rw (c .before .before .before .before .before .before .before .before .match .keys31, c .before .before .linear18 .ensures, c .before .before .before .before .before .before .two9 .ensures)
-
-returns-32 : tie.Need-returns-32
-returns-32 c = rw (c .before .before .before .before .before .before .before .before .match .keys32, c .before .before .linear19 .ensures, c .before .before .before .before .before .before .two10 .ensures)
-
-returns-33 : tie.Need-returns-33
-returns-33 c = rw (c .before .before .before .before .before .before .before .before .match .keys33, c .before .before .linear20 .ensures, c .before .before .before .before .before .before .two11 .ensures)
-
-returns-34 : tie.Need-returns-34
-returns-34 c = rw (c .before .before .before .before .before .before .before .before .match .keys34, c .before .before .linear21 .ensures, c .before .before .before .before .before .before .two12 .ensures)
-
-returns-35 : tie.Need-returns-35
-returns-35 c = in-order (540023308 ∷ 541595666 ∷ 1078469632 ∷ 1076896768 ∷ 1347429377 ∷ 1347167295 ∷ 1347953664 ∷ 1613764671 ∷ 1615603252 ∷ 1882200064 ∷ 1613764656 ∷ 541861388 ∷ 1613769760 ∷ 542644246 ∷ 1880370176 ∷ 1345331744 ∷ 540025356 ∷ []) (getD runs 34 lastRun) (c .before .before .before .before .before .before .before .before .before .before .args .i) (now (c .before .before .before .before .before .before .before .before .before .before .args .cells)) (rw (c .before .before .linear22 .ensures, c .before .before .before .before .before .before .sixteen9 .ensures)) (ap (λ (k : ℕ). getD runs k lastRun) (c .before .before .before .before .before .before .before .before .match .keys35)) tt
-
-returns-36 : tie.Need-returns-36
-returns-36 c = rw (c .before .before .before .before .before .before .before .before .before .before .before .before .match .keys36, c .before .before .linear23 .ensures, c .before .before .before .before .before .before .two13 .ensures, c .before .before .before .before .before .before .before .before .before .before .eight16 .ensures)
-
-returns-37 : tie.Need-returns-37
-returns-37 c = rw (c .before .before .before .before .before .before .before .before .before .before .before .before .match .keys37, c .before .before .linear24 .ensures, c .before .before .before .before .before .before .two14 .ensures, c .before .before .before .before .before .before .before .before .before .before .eight17 .ensures)
-
-returns-38 : tie.Need-returns-38
-returns-38 c = rw (c .before .before .before .before .before .before .before .before .before .before .before .before .match .keys38, c .before .before .linear25 .ensures, c .before .before .before .before .before .before .two15 .ensures, c .before .before .before .before .before .before .before .before .before .before .eight18 .ensures)
-
-returns-39 : tie.Need-returns-39
-returns-39 c = rw (c .before .before .before .before .before .before .before .before .before .before .before .before .match .keys39, c .before .before .linear26 .ensures, c .before .before .before .before .before .before .two16 .ensures, c .before .before .before .before .before .before .before .before .before .before .eight19 .ensures)
-
-returns-40 : tie.Need-returns-40
-returns-40 c = rw (c .before .before .before .before .before .before .before .before .before .before .before .before .match .keys40, c .before .before .linear27 .ensures, c .before .before .before .before .before .before .two17 .ensures, c .before .before .before .before .before .before .before .before .before .before .eight20 .ensures)
-
-returns-41 : tie.Need-returns-41
-returns-41 c = rw (c .before .before .before .before .before .before .before .before .before .before .before .before .match .keys41, c .before .before .two18 .ensures, c .before .before .before .before .before .before .four17 .ensures, c .before .before .before .before .before .before .before .before .before .before .sixteen10 .ensures)
-
-returns-42 : tie.Need-returns-42
-returns-42 c = in-order (1617178625 ∷ 1343231039 ∷ 1076896768 ∷ 1613239344 ∷ 1344803888 ∷ 1613764671 ∷ 1611663423 ∷ 537921548 ∷ 271582207 ∷ 543430681 ∷ 271581185 ∷ 540022788 ∷ 1345329162 ∷ 543437324 ∷ 1076889088 ∷ 1613764671 ∷ 1345329163 ∷ 540028940 ∷ 1345329168 ∷ 543430681 ∷ 1080308224 ∷ 1345590273 ∷ 1076893184 ∷ 1613764656 ∷ 1343494192 ∷ 540022789 ∷ 1343493633 ∷ 1611926064 ∷ 1348743712 ∷ 540281357 ∷ 1617179168 ∷ 1343500816 ∷ 540022789 ∷ 1611936264 ∷ 1343490576 ∷ 540281357 ∷ []) (getD runs 41 lastRun) (c .before .before .before .before .before .before .before .before .before .before .before .before .before .before .args .i) (now (c .before .before .before .before .before .before .before .before .before .before .before .before .before .before .args .cells)) (rw (c .before .before .four18 .ensures, c .before .before .before .before .before .before .sixteen12 .ensures, c .before .before .before .before .before .before .before .before .before .before .sixteen11 .ensures)) (ap (λ (k : ℕ). getD runs k lastRun) (c .before .before .before .before .before .before .before .before .before .before .before .before .match .keys42)) tt
-
-returns-43 : tie.Need-returns-43
-returns-43 c = rw (c .before .before .before .before .before .before .before .before .match .keys43, c .before .before .four19 .ensures, c .before .before .before .before .before .before .sixteen13 .ensures)
-
-returns-44 : tie.Need-returns-44
-returns-44 c = rw (c .before .before .before .before .before .before .before .before .match .keys44, c .before .before .four20 .ensures, c .before .before .before .before .before .before .sixteen14 .ensures)
-
-returns-45 : tie.Need-returns-45
-returns-45 c = rw (c .before .before .before .before .before .before .before .before .match .keys45, c .before .before .four21 .ensures, c .before .before .before .before .before .before .sixteen15 .ensures)
-
-returns-46 : tie.Need-returns-46
-returns-46 c = rw (c .before .before .before .before .before .before .before .before .before .before .before .before .before .before .before .before .match .keys46, c .before .before .two19 .ensures, c .before .before .before .before .before .before .eight21 .ensures, c .before .before .before .before .before .before .before .before .before .before .sixteen17 .ensures, c .before .before .before .before .before .before .before .before .before .before .before .before .before .before .sixteen16 .ensures)
-
-returns-47 : tie.Need-returns-47
-returns-47 c = rw (c .before .before .before .before .before .before .before .before .before .before .before .before .match .keys47, c .before .before .two20 .ensures, c .before .before .before .before .before .before .four22 .ensures, c .before .before .before .before .before .before .before .before .before .before .eight22 .ensures)
-
-returns-48 : tie.Need-returns-48
-returns-48 c = rw (c .before .before .before .before .before .before .before .before .before .before .before .before .match .keys48, c .before .before .two21 .ensures, c .before .before .before .before .before .before .four23 .ensures, c .before .before .before .before .before .before .before .before .before .before .eight23 .ensures)
-
-returns-49 : tie.Need-returns-49
-returns-49 c = rw (c .before .before .before .before .before .before .before .before .before .before .before .before .match .keys49, c .before .before .two22 .ensures, c .before .before .before .before .before .before .four24 .ensures, c .before .before .before .before .before .before .before .before .before .before .eight24 .ensures)
-
-returns-50 : tie.Need-returns-50
-returns-50 c = rw (c .before .before .before .before .before .before .before .before .before .before .before .before .match .keys50, c .before .before .two23 .ensures, c .before .before .before .before .before .before .four25 .ensures, c .before .before .before .before .before .before .before .before .before .before .eight25 .ensures)
-
-returns-51 : tie.Need-returns-51
-returns-51 c = rw (c .before .before .before .before .before .before .before .before .before .before .before .before .match .keys51, c .before .before .two24 .ensures, c .before .before .before .before .before .before .four26 .ensures, c .before .before .before .before .before .before .before .before .before .before .eight26 .ensures)
-
-returns-52 : tie.Need-returns-52
-returns-52 c = rw (c .before .before .before .before .before .before .before .before .match .keys52, c .before .before .two25 .ensures, c .before .before .before .before .before .before .eight27 .ensures)
-
-returns-53 : tie.Need-returns-53
-returns-53 c = rw (c .before .before .before .before .before .before .before .before .match .keys53, c .before .before .four27 .ensures, c .before .before .before .before .before .before .eight28 .ensures)
-
-returns-54 : tie.Need-returns-54
-returns-54 c = rw (past runs lastRun _ (c .before .before .before .before .match .rest), c .before .before .four28 .ensures)
-
 pub on-share-spec : {M : Type 1} → statement M
 on-share-spec =
     tie.close (tie.spec
@@ -192,33 +112,11 @@ on-share-spec =
     (λ c κs. c .before .before .before .pre) (λ c κs. search needs) (λ c κs. c .before .before .before .pre)
     (λ c κs. c .before .before .before .pre) (λ c κs. search needs) (λ c κs. c .before .before .before .pre) (λ c κs. search needs)
     (λ c κs. c .before .before .before .pre) (λ c κs. search needs) (λ c κs. c .before .before .before .pre) (λ c κs. search needs)
-    (λ c κs. c .before .before .before .pre) (λ c κs. search needs) (λ c κs. c .before .before .before .pre) (λ c κs. search needs)
-    (λ c κs. search needs) (λ c κs. c .before .before .before .pre) (λ c κs. search needs) (λ c κs. c .before .before .before .pre)
-    (λ c κs. search needs) (λ c κs. c .before .before .before .pre) (λ c κs. search needs) (λ c κs. c .before .before .before .pre)
-    (λ c κs. search needs) (λ c κs. c .before .before .before .pre) (λ c κs. search needs) (λ c κs. c .before .before .before .pre)
-    (λ c κs. search needs) (λ c κs. c .before .before .before .pre) (λ c κs. search needs) (λ c κs. search needs)
-    (λ c κs. c .before .before .before .pre) (λ c κs. search needs) (λ c κs. search needs) (λ c κs. c .before .before .before .pre)
-    (λ c κs. search needs) (λ c κs. search needs) (λ c κs. c .before .before .before .pre) (λ c κs. search needs) (λ c κs. search needs)
-    (λ c κs. c .before .before .before .pre) (λ c κs. search needs) (λ c κs. search needs) (λ c κs. c .before .before .before .pre)
-    (λ c κs. search needs) (λ c κs. search needs) (λ c κs. c .before .before .before .pre) (λ c κs. search needs) (λ c κs. search needs)
-    (λ c κs. c .before .before .before .pre) (λ c κs. search needs) (λ c κs. c .before .before .before .pre) (λ c κs. search needs)
-    (λ c κs. c .before .before .before .pre) (λ c κs. search needs) (λ c κs. c .before .before .before .pre) (λ c κs. search needs)
-    (λ c κs. search needs) (λ c κs. search needs) (λ c κs. c .before .before .before .pre) (λ c κs. search needs) (λ c κs. search needs)
-    (λ c κs. c .before .before .before .pre) (λ c κs. search needs) (λ c κs. search needs) (λ c κs. c .before .before .before .pre)
-    (λ c κs. search needs) (λ c κs. search needs) (λ c κs. c .before .before .before .pre) (λ c κs. search needs) (λ c κs. search needs)
-    (λ c κs. c .before .before .before .pre) (λ c κs. search needs) (λ c κs. search needs) (λ c κs. c .before .before .before .pre)
-    (λ c κs. search needs) (λ c κs. c .before .before .before .pre) (λ c κs. search needs) (λ c κs. c .before .before .before .pre)
+    (λ c κs. (reached 0 27 _ (c .before .match .rest) (omega arith), c .before .before .before .pre .0, c .before .before .before .pre .1))
     (λ c. search needs) returns (λ c. search needs) returns-2 (λ c. search needs) returns-3 (λ c. search needs) returns-4
     (λ c. search needs) returns-5 (λ c. search needs) returns-6 (λ c. search needs) returns-7 (λ c. search needs) returns-8
     (λ c. search needs) returns-9 (λ c. search needs) returns-10 (λ c. search needs) returns-11 (λ c. search needs) returns-12
     (λ c. search needs) returns-13 (λ c. search needs) returns-14 (λ c. search needs) returns-15 (λ c. search needs) returns-16
     (λ c. search needs) returns-17 (λ c. search needs) returns-18 (λ c. search needs) returns-19 (λ c. search needs) returns-20
     (λ c. search needs) returns-21 (λ c. search needs) returns-22 (λ c. search needs) returns-23 (λ c. search needs) returns-24
-    (λ c. search needs) returns-25 (λ c. search needs) returns-26 (λ c. search needs) returns-27 (λ c. search needs) returns-28
-    (λ c. search needs) returns-29 (λ c. search needs) returns-30 (λ c. search needs) returns-31 (λ c. search needs) returns-32
-    (λ c. search needs) returns-33 (λ c. search needs) returns-34 (λ c. search needs) returns-35 (λ c. search needs) returns-36
-    (λ c. search needs) returns-37 (λ c. search needs) returns-38 (λ c. search needs) returns-39 (λ c. search needs) returns-40
-    (λ c. search needs) returns-41 (λ c. search needs) returns-42 (λ c. search needs) returns-43 (λ c. search needs) returns-44
-    (λ c. search needs) returns-45 (λ c. search needs) returns-46 (λ c. search needs) returns-47 (λ c. search needs) returns-48
-    (λ c. search needs) returns-49 (λ c. search needs) returns-50 (λ c. search needs) returns-51 (λ c. search needs) returns-52
-    (λ c. search needs) returns-53 (λ c. search needs) returns-54)
+    (λ c. search needs) returns-25 (λ c. search needs) returns-26 (λ c. search needs) returns-27 (λ c. search needs) (λ c. search needs))

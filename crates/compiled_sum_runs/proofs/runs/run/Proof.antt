@@ -1,5 +1,5 @@
 -- Written by tools/compile_plan.py: change the plan or the compiler, not this file.
--- `compiled_sum::runs::run` meets its contract.
+-- `compiled_sum_runs::runs::run` meets its contract.
 use mathlib.Core.Path.{_≡_}
 use Prim.Native.Nat.{_-_, _≤_}
 use native.Mathlib.Omega.{arith}
@@ -9,9 +9,9 @@ use borrow.Author.Needs.{needs}
 use Rattle.masking.specs.Translation.{shares, upFrom}
 use Rattle.compiled.specs.inner.OnShare.{shareByShare}
 use Rattle.compiled.proofs.Turn.{begin, turn, end}
-use Rattle.compiled_sum.specs.inner.Runs.{lastRun, runs}
-use Rattle.compiled_sum.proofs.runs.run.Statement.{statement}
-use Rattle.compiled_sum.proofs.runs.run.Tie as tie
+use Rattle.compiled_sum_from_27.specs.inner.Runs.{lastRun, runs}
+use Rattle.compiled_sum_runs.proofs.runs.run.Statement.{statement}
+use Rattle.compiled_sum_runs.proofs.runs.run.Tie as tie
 
 abbrev Inv-loop : tie.InvT-loop
 Inv-loop k n cells₀ i₀ cells i =
