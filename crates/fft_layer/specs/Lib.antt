@@ -1,2 +1,1 @@
--- Names that inner contracts cite (Inner). What the calls do stands in fft_numbers's specs.
-pub mod inner
+-- Nothing of its own: what the calls do stands in fft_numbers's specs.

@@ -5,15 +5,11 @@ ghost use Rattle.fft_numbers.specs.Calls.{complexCallAnswer, complexResult, com
 ghost use Rattle.fft_numbers.specs.Holds.{Transforms};
 ghost use Rattle.fft_numbers.specs.Means.{LayerMeans, OnSharesMeans};
 ghost use Rattle.fft_numbers.specs.RandomWords.{TransformWords};
-use crate::answers::complex_answer;
-use crate::answers::layer_answer;
-use crate::pairs::layer_done;
-use crate::whole::product_done;
 use checks::answer::Answer;
-
-mod answers;
-mod pairs;
-mod whole;
+use fft_all_pairs::layer_done;
+use fft_answers::complex_answer;
+use fft_answers::layer_answer;
+use fft_lent::product_done;
 
 // The product of shared complex numbers x and y, n shares each: share i has the real part in word 2i and the imaginary part in word 2i + 1, in the
 // result too. Turned down with 1 where n is not 2 to 8, 4 where a slice has the wrong length, 6 where the tape is too short; all is then as it was.

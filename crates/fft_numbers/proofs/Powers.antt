@@ -4,7 +4,7 @@ use mathlib.Core.Bool.{Bool, true, false, _&&_, _||_}
 use mathlib.Core.List.{List, _∷_, map}
 use mathlib.Core.Logic.{_⊎_, inl, inr, ⊎-elim}
 use Prim.Native.Nat.{ℕ, zero, suc, _+_, _-_, _*_, _/_, _%_, _^_, _≤_, _<_}
-use native.Mathlib.Nat.{mul-comm, mul-assoc, mul-suc, mod-lt, mul-div-cancel, mul-le-mul-left, div-le-self, div-lt-iff-lt-mul, pow-succ'}
+use native.Mathlib.Nat.{mul-comm, mul-assoc, mul-suc, mod-lt, mul-div-cancel, mul-le-mul, mul-le-mul-left, div-le-self, div-lt-iff-lt-mul, pow-succ'}
 use native.Mathlib.Numerals.{add-one}
 use native.Mathlib.Omega.{arith}
 use native.Mathlib.Decide.{decLt}
@@ -148,3 +148,7 @@ pair-placed N h k S l =
       few = div-le-self N (2 * h);
       start = omega (arith, S .filled, mul-comm (blockCount N h) (2 * h));
     }
+
+-- no more lent words on shares than this
+pub numbers-most : (N n : ℕ) → N ≤ 1024 → n ≤ 8 → 2 * N * n ≤ 16384
+numbers-most N n hN hn = mul-le-mul {n₁ = 2 * N} {m₁ = n} {n₂ = 2048} {m₂ = 8} (omega arith) hn

@@ -1,7 +1,7 @@
 -- Calculations made of calls: acts on numbers in slots, on plain words and on shares (Acts); the complex product and one layer of the
 -- transform as such lists (Complex, Layer); the lent words (Layout); the calls' answers and what they leave (Calls); what is proved (Secrecy,
 -- Holds), what a layer on plain words means and what complex product, pair and layer come to on shares (Means), how many random words
--- their calls take (RandomWords), with worked examples (Examples). Inner holds names that inner contracts cite.
+-- their calls take (RandomWords), with worked examples (Examples).
 pub mod Acts
 pub mod Complex
 pub mod Layer
@@ -12,4 +12,3 @@ pub mod Holds
 pub mod Means
 pub mod RandomWords
 pub mod Examples
-pub mod inner

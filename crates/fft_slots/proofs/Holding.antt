@@ -2,17 +2,18 @@
 use mathlib.Core.Path.{_≡_, refl, sym, ap, _∙_}
 use mathlib.Core.List.{List, [], _∷_}
 use Prim.Native.Nat.{ℕ, zero, suc, _+_, _*_, _/_, _%_, _≤_, _<_}
-use native.Mathlib.Nat.{zero-add, add-comm, mul-suc, mul-le-mul, mul-le-mul-left, mul-div-cancel-left, add-mul-mod-self-left, mod-eq-of-lt}
+use native.Mathlib.Nat.{zero-add, add-comm, mul-suc, mul-le-mul-left, mul-div-cancel-left, add-mul-mod-self-left, mod-eq-of-lt}
 use native.Mathlib.Decide.{ℕ-discrete}
 use native.Mathlib.Omega.{arith}
-use lib.ListN.{length, getD, set, length-set}
+use lib.ListN.{length, getD, set, replicate, length-set, length-replicate, getD-replicate}
 use lib.Seq.{ext-getD, getD-set-same, getD-set-other}
 use borrow.Author.Tests.{eq-eqb, ne-eqb}
 use Rattle.fft_numbers.specs.Acts.{Slots, holding, lending, flipped, flippedFirst}
 use Rattle.fft_numbers.specs.Layout.{numberOf}
 use Rattle.fft_numbers.proofs.Laid.{number-size, number-at}
-use Rattle.fft_slots.specs.inner.Inner.{slotAt, slotStep, heldOf, written, Inside, HeldIn, LentIn}
-use Rattle.fft_slots.proofs.Written.{written-size, written-other, written-at}
+use Rattle.fft_copies.specs.inner.Inner.{written, Inside}
+use Rattle.fft_slots.specs.inner.Inner.{slotAt, slotStep, heldOf, HeldIn, LentIn}
+use Rattle.fft_copies.proofs.Written.{written-size, written-other, written-at}
 
 -- ---- a number written where it is read
 read-written : (n step at : ℕ) (xs l : List ℕ) → ((a b : ℕ) → step * a + at ≡ step * b + at → a ≡ b) → length xs ≡ n → Inside n step at (length l)
@@ -34,6 +35,14 @@ read-other n step at l l′ h =
     number-at n step at l′ i lt ∙ h i lt ∙ sym (number-at n step at l i lt))
 
 -- ---- slots
+-- zeros hold zeros
+pub zeros-held : (n k : ℕ) → n ≤ 8 → k < 16 → heldOf n k (replicate 512 0) ≡ replicate n 0
+zeros-held n k few lk =
+    ext-getD 0 (heldOf n k (replicate 512 0)) (replicate n 0) (number-size n slotStep (slotAt k) (replicate 512 0) ∙ sym (length-replicate n 0))
+    (λ i h.
+    let l : i < n = omega (arith, number-size n slotStep (slotAt k) (replicate 512 0)) in
+    number-at n slotStep (slotAt k) (replicate 512 0) i l ∙ getD-replicate 512 (slotStep * i + slotAt k) 0 0 (omega arith) ∙ sym (getD-replicate n i 0 0 l))
+
 module _ (n : ℕ) (few : n ≤ 8) where
   module _ (k : ℕ) (lk : k < 16) (work : List ℕ) (s : Slots (List ℕ)) (H : HeldIn n work s) where
     -- a number written into slot k
@@ -121,7 +130,3 @@ module _ (n S j : ℕ) (lj : j < S) (numbers : List ℕ) where
       by m lm (no e) =
           rw (ne-eqb m j e) (read-other n S m numbers (written S j 0 xs numbers)
           (λ i l. written-other S j 0 xs numbers (S * i + m) (λ a lo hi q. e (sym (in-row i m lm) ∙ ap (λ (x : ℕ). x % S) q ∙ in-row a j lj))) ∙ L .each m lm)
-
--- no more lent words than this
-pub numbers-most : (N n : ℕ) → N ≤ 1024 → n ≤ 8 → 2 * N * n ≤ 16384
-numbers-most N n hN hn = mul-le-mul {n₁ = 2 * N} {m₁ = n} {n₂ = 2048} {m₂ = 8} (omega arith) hn

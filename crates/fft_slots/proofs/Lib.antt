@@ -1,6 +1,4 @@
--- Shares written apart from one another (Written); numbers in slots and among the lent words (Holding); a call on slots (Operands); acts in turn
--- (OneByOne).
-pub mod Written
+-- Numbers in slots and among the lent words (Holding); two of them as a call's operands in registers 0 and 1 (Registers); acts in turn (OneByOne).
 pub mod Holding
-mod Operands
+mod Registers
 pub mod OneByOne

@@ -8,7 +8,8 @@ use Rattle.fft_numbers.specs.Acts.{Act, Load, Store, Slots, tapeFor, runShares}
 use Rattle.fft_numbers.specs.Layout.{numberOf}
 use Rattle.fft_numbers.proofs.Laws.{shares-append}
 use Rattle.fft_numbers.proofs.Laid.{number-size}
-use Rattle.fft_slots.specs.inner.Inner.{slotAt, slotStep, heldOf, written, HeldDone, Done}
+use Rattle.fft_copies.specs.inner.Inner.{written}
+use Rattle.fft_slots.specs.inner.Inner.{slotAt, slotStep, heldOf, HeldDone, Done}
 use Rattle.fft_slots.proofs.Holding.{held-written, lent-written}
 
 -- acts from place t of the tape on, and acts from the place where they end

@@ -7,7 +7,7 @@ ghost use Rattle.fft_numbers.specs.Holds.{Transforms};
 ghost use Rattle.fft_numbers.specs.Means.{LayerMeans, OnSharesMeans};
 ghost use Rattle.fft_numbers.specs.RandomWords.{TransformWords};
 use checks::answer::Answer;
-use fft_numbers::Complex;
+use fft_plain::Complex;
 
 // The product of a + bi and c + di.
 #[no_mangle]
@@ -15,7 +15,7 @@ pub extern "C" fn lubewon_complex_product(a: u64, b: u64, c: u64, d: u64) -> Com
     ensures re { λ r. ⌜ r .re ≡ complexRe a b c d ⌝ }
     ensures im { λ r. ⌜ r .im ≡ complexIm a b c d ⌝ }
 {
-    fft_numbers::product(a, b, c, d)
+    fft_plain::product(a, b, c, d)
 }
 
 // One layer over `count` complex numbers at `distance`, in place.
@@ -30,7 +30,7 @@ pub extern "C" fn lubewon_layer(
     ensures numbers { λ _. ⌜ now (numbers .exit) ≡ plainNumbers count distance (now (numbers .entry)) (now (factors .entry)) ⌝ }
     ensures holds { λ _. ⌜ LayerMeans ⌝ }
 {
-    fft_numbers::layer(count, distance, numbers, factors)
+    fft_plain::layer(count, distance, numbers, factors)
 }
 
 // The product of complex numbers on n shares; `work` has 512 words and is zeros afterwards.

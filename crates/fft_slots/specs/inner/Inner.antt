@@ -1,9 +1,9 @@
 -- Names that inner contracts cite: nothing here has to be believed. Numbers held in slots lie in cells of the work slice that translated
 -- plans do not use.
 use mathlib.Core.Path.{_≡_}
-use mathlib.Core.List.{List, [], _∷_}
-use Prim.Native.Nat.{ℕ, suc, _+_, _*_, _<_}
-use lib.ListN.{length, set}
+use mathlib.Core.List.{List}
+use Prim.Native.Nat.{ℕ, _+_, _*_, _<_}
+use lib.ListN.{length}
 use Rattle.fft_numbers.specs.Acts.{Act, Slots, runShares}
 use Rattle.fft_numbers.specs.Layout.{numberOf}
 
@@ -18,20 +18,7 @@ slotStep = 16
 abbrev pub heldOf : ℕ → ℕ → List ℕ → List ℕ
 heldOf n k work = numberOf n slotStep (slotAt k) work
 
--- words written from `at` on, `step` apart, from share i on
-abbrev pub written : ℕ → ℕ → ℕ → List ℕ → List ℕ → List ℕ
-written step at i [] l = l
-written step at i (x ∷ xs) l = written step at (suc i) xs (set l (step * i + at) x)
-
--- a number's places lie in a slice of this length
-abbrev pub Inside : ℕ → ℕ → ℕ → ℕ → Type 0
-Inside n step at size = (i : ℕ) → i < n → step * i + at < size
-
--- the places of one number are none of another's
-abbrev pub Apart : ℕ → ℕ → ℕ → ℕ → ℕ → Type 0
-Apart n step at step′ at′ = (i i′ : ℕ) → i < n → i′ < n → step * i + at ≡ step′ * i′ + at′ → ⊥
-
--- the work slice holds the fft_slots' numbers
+-- the work slice holds the slots' numbers
 pub record HeldIn (n : ℕ) (work : List ℕ) (s : Slots (List ℕ)) : Type 0 where
   pub size : length work ≡ 512
   pub each : (k : ℕ) → k < 16 → heldOf n k work ≡ s .held k

@@ -1,0 +1,2 @@
+-- A layer's pairs in turn (InRow).
+mod InRow

@@ -1,0 +1,1 @@
+-- Nothing of its own: what a layer gives stands in fft_numbers's specs.

@@ -1,0 +1,1 @@
+-- Nothing of its own: the answers stand in fft_numbers's specs.

@@ -1,0 +1,2 @@
+-- The complex product's operands from lent slices and its result into one (InAndOut).
+mod InAndOut
