@@ -20,6 +20,7 @@ use Rattle.masking.proofs.emitted.Counts.{plan-counts}
 use Rattle.masking.proofs.joined.Cells.{drop-words}
 use Rattle.masking.proofs.joined.Plan.{joined-after}
 use Rattle.masking.proofs.joined.Wiped.{wiped-after}
+use Rattle.masking.proofs.OneRun.{translated-taken}
 use Rattle.masking.proofs.InARow.{Reached, each-run, all-reached, place-sum, tape-sum, rands-take, due-rands, done-answer}
 use Rattle.masking.proofs.secret.SecretRuns.{After, secret}
 
@@ -37,13 +38,13 @@ module _ (n : ℕ) (plan : List ℕ) (A : Accepted n plan) (start tape : List �
   st₀ = begun n plan start tape p₀
 
   abbrev Here : State → Type 0
-  Here = Reached P tape start p₀ (plan-counts n plan A .longest) (plan-counts n plan A .good)
+  Here = Reached P tape start p₀ (translated-taken n plan A)
 
   at-start : Here st₀
   at-start = record { within = omega arith; tapeAt = sym (add-zero p₀); inTape = inside; cells = refl; size = S .size }
 
   reached : (budgets : List ℕ) → Here (inARow P tape st₀ budgets)
-  reached = all-reached P tape start p₀ (plan-counts n plan A .longest) (plan-counts n plan A .good) st₀ at-start
+  reached = all-reached P tape start p₀ (translated-taken n plan A) st₀ at-start
 
   module _ (budgets : List ℕ) where
     abbrev m : ℕ
@@ -66,7 +67,7 @@ module _ (n : ℕ) (plan : List ℕ) (A : Accepted n plan) (start tape : List �
       let r = reached before in
       let l : rands (take (st .place + length (due P (st .place) b)) P) ≤ foretoldTape n plan =
       le-trans (rands-take P (st .place + length (due P (st .place) b))) (le-of-eq (plan-counts n plan A .tape)) in
-      ap (λ a. a .number) (done-answer P tape start p₀ (plan-counts n plan A .longest) (plan-counts n plan A .good) st r b
+      ap (λ a. a .number) (done-answer P tape start p₀ (translated-taken n plan A) st r b
       (omega (arith, due-rands P (st .place) b, r .tapeAt, l)))
 
   -- AND's scratch cells
@@ -79,7 +80,7 @@ module _ (n : ℕ) (plan : List ℕ) (A : Accepted n plan) (start tape : List �
   in-a-row : Words tape → (budgets : List ℕ) → InARow n plan start tape p₀ budgets
   in-a-row W budgets =
       record {
-        each = λ before rest b e. each-run P tape start p₀ (plan-counts n plan A .longest) (plan-counts n plan A .good) (inARow P tape st₀ before) (reached before) b;
+        each = λ before rest b e. each-run P tape start p₀ (translated-taken n plan A) (inARow P tape st₀ before) (reached before) b;
         cells = cells-are budgets;
         size = reached budgets .size;
         rand = used-are budgets;
