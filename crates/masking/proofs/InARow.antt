@@ -3,7 +3,7 @@
 use mathlib.Core.Path.{_≡_, refl, sym, ap, ap₂, _∙_, subst}
 use mathlib.Core.List.{List, [], _∷_, _++_}
 use Prim.Native.Nat.{ℕ, zero, suc, _+_, _-_, _≤_, _<_, min}
-use native.Mathlib.Nat.{add-assoc, add-zero, zero-min, min-zero, suc-min-suc}
+use native.Mathlib.Nat.{add-assoc, add-zero, zero-add, add-left-cancel, zero-min, min-zero, suc-min-suc}
 use native.Mathlib.Decide.{decLt}
 use native.Mathlib.Omega.{arith}
 use lib.Dec.{ltb}
@@ -18,7 +18,7 @@ use Rattle.word.specs.Encoding.{programStep}
 use Rattle.checks.specs.Answers.{done, refused, given, afterCall}
 use Rattle.word.specs.Table.{dest, becomes}
 use Rattle.masking.specs.Machine.{takes, withStep, stepsOf, execStep, execSteps, randsOf, exec, rands}
-use Rattle.masking.specs.Runs.{State, due, runAnswer, moved, inARow, wordsDone, tapeUsed}
+use Rattle.masking.specs.Runs.{State, standing, due, runAnswer, moved, inARow, wordsDone, tapeUsed}
 use Rattle.masking.specs.Demand3.{EachRun}
 use Rattle.masking.proofs.emitted.Counts as counts
 use Rattle.masking.proofs.OneRun.{Taken, due-length, rest-inside}
@@ -73,6 +73,15 @@ due-append P m b = take-add m (length (due P m b)) P ∙ ap (λ (r : List ℕ). 
 
 pub due-rands : (P : List ℕ) (m b : ℕ) → rands (take (m + length (due P m b)) P) ≡ rands (take m P) + rands (due P m b)
 due-rands P m b = ap rands (due-append P m b) ∙ rands-append (take m P) (due P m b)
+
+-- places move on by the sums that the answers report
+pub place-sum : (P tape : List ℕ) (st : State) (budgets : List ℕ) → inARow P tape st budgets .place ≡ st .place + wordsDone P tape st budgets
+place-sum P tape st [] = sym (add-zero (st .place))
+place-sum P tape st (b ∷ bs) = place-sum P tape (moved P tape st b) bs ∙ add-assoc (st .place) (runAnswer P tape st b .words) (wordsDone P tape (moved P tape st b) bs)
+
+pub tape-sum : (P tape : List ℕ) (st : State) (budgets : List ℕ) → inARow P tape st budgets .tapePlace ≡ st .tapePlace + tapeUsed P tape st budgets
+tape-sum P tape st [] = sym (add-zero (st .tapePlace))
+tape-sum P tape st (b ∷ bs) = tape-sum P tape (moved P tape st b) bs ∙ add-assoc (st .tapePlace) (runAnswer P tape st b .tape) (tapeUsed P tape (moved P tape st b) bs)
 
 -- ---- one program, tape and start
 module _ (P tape start : List ℕ) (p₀ : ℕ) (taken : Taken P) where
@@ -160,14 +169,27 @@ module _ (P tape start : List ℕ) (p₀ : ℕ) (taken : Taken P) where
   all-reached st r [] = r
   all-reached st r (b ∷ bs) = all-reached (moved P tape st b) (moved-reached st r b) bs
 
--- places move on by the sums that the answers report
-pub place-sum : (P tape : List ℕ) (st : State) (budgets : List ℕ) → inARow P tape st budgets .place ≡ st .place + wordsDone P tape st budgets
-place-sum P tape st [] = sym (add-zero (st .place))
-place-sum P tape st (b ∷ bs) = place-sum P tape (moved P tape st b) bs ∙ add-assoc (st .place) (runAnswer P tape st b .words) (wordsDone P tape (moved P tape st b) bs)
+  -- from program place 0: after a list of runs the cells are what the words done make of the start, and the tape words used are their RANDs
+  module _ (size : length start ≡ 512) (inside : p₀ ≤ length tape) where
+    abbrev begun : State
+    begun = standing start 0 p₀
 
-pub tape-sum : (P tape : List ℕ) (st : State) (budgets : List ℕ) → inARow P tape st budgets .tapePlace ≡ st .tapePlace + tapeUsed P tape st budgets
-tape-sum P tape st [] = sym (add-zero (st .tapePlace))
-tape-sum P tape st (b ∷ bs) = tape-sum P tape (moved P tape st b) bs ∙ add-assoc (st .tapePlace) (runAnswer P tape st b .tape) (tapeUsed P tape (moved P tape st b) bs)
+    pub begun-reached : (budgets : List ℕ) → Reached (inARow P tape begun budgets)
+    begun-reached = all-reached begun (record { within = omega arith; tapeAt = sym (add-zero p₀); inTape = inside; cells = refl; size = size })
+
+    module _ (budgets : List ℕ) where
+      abbrev m : ℕ
+      m = wordsDone P tape begun budgets
+
+      pub place-is : inARow P tape begun budgets .place ≡ m
+      place-is = place-sum P tape begun budgets ∙ zero-add m
+
+      pub cells-are : inARow P tape begun budgets .cells ≡ exec (take m P) (drop p₀ tape) start
+      cells-are = begun-reached budgets .cells ∙ ap (λ (k : ℕ). exec (take k P) (drop p₀ tape) start) place-is
+
+      pub used-are : tapeUsed P tape begun budgets ≡ rands (take m P)
+      used-are =
+          add-left-cancel p₀ (sym (tape-sum P tape begun budgets) ∙ begun-reached budgets .tapeAt ∙ ap (λ (k : ℕ). p₀ + rands (take k P)) place-is)
 
 -- no first words of a program hold more RAND than all
 pub rands-take : (P : List ℕ) (m : ℕ) → rands (take m P) ≤ rands P

@@ -2,7 +2,7 @@
 -- translation, and that what comes next is the answer where that is done. Of the rest: what it is from places inside program and tape, what
 -- it says where it is done, and that its counts never pass what is left. All that is proved of runs goes by these.
 -- Rests on checks' Checked for the first half, on Counts for a translation's words.
-use mathlib.Core.Path.{_≡_, refl, sym, ap, _∙_}
+use mathlib.Core.Path.{_≡_, refl, ap, _∙_}
 use mathlib.Core.Bool.{Bool, true, false, not, _||_}
 use mathlib.Core.List.{List}
 use Prim.Native.Nat.{ℕ, _-_, _≤_, min}

@@ -1,5 +1,5 @@
 -- Known registers decide a plan's results and the words of its steps (`known-decide`): its words' steps on registers read known registers alone, and
--- so do their share steps by DecidedBlocks. Rests also on emitted's Steps and secret's Secret (words as steps).
+-- so do their share steps by DecidedBlocks. Rests also on emitted's Steps and secret's Programs (words as steps).
 use mathlib.Core.Path.{_≡_, refl, sym, ap, _∙_}
 use mathlib.Core.Bool.{not}
 use mathlib.Core.List.{List, [], _∷_}
@@ -23,12 +23,12 @@ use Rattle.masking.specs.Machine.{exec, execSteps}
 use Rattle.masking.specs.Reads.{memberOf, reading, readsOnly, knownAfter, AgreeIn, stepWord, KnownDecide}
 use Rattle.masking.proofs.emitted.Tests.{or-elim, all-take}
 use Rattle.masking.proofs.emitted.Places.{share-register}
-use Rattle.masking.proofs.emitted.Steps.{PlanWords, taken-kind, planSteps, blocks-append, words-good, words-steps}
+use Rattle.masking.proofs.emitted.Steps.{PlanWords, taken-kind, planSteps, blocks-append, program-words, words-good, words-steps}
 use Rattle.masking.proofs.joined.Cells.{Cells, at, stepsOn, exec-on}
 use Rattle.masking.proofs.joined.Plan.{laid-kinds}
 use Rattle.masking.proofs.joined.Decided.{Some, plus, Decides, Same, run-same, words-same, decides-to, decides-then}
 use Rattle.masking.proofs.joined.DecidedBlocks.{SharesOf, blocks-decide, laid-decides}
-use Rattle.masking.proofs.secret.Secret.{steps-length, program-word}
+use Rattle.masking.proofs.secret.Programs.{steps-length, held-at}
 
 -- it has no bad word
 reads-words : (plan known : List ℕ) → T (readsOnly plan known) → PlanWords plan
@@ -98,11 +98,11 @@ module _ (n : ℕ) (plan known tape c c′ : List ℕ) (h : T (readsOnly plan kn
 
   on-the-way : Accepted n plan → (s : ℕ) → s < length (program n plan) → stepWord n plan s tape c ≡ stepWord n plan s tape c′
   on-the-way A s l =
-      run c size ∙ words-same _ _ ss (plan-decides n plan words known h) tape (at c) (at c′) start s (omega (arith, steps-length n plan A)) ∙ sym (run c′ size′)
+      run c size ∙ words-same _ _ ss (plan-decides n plan words known h) tape (at c) (at c′) start s (omega (arith, steps-length (program n plan) ss (program-words n plan) (words-good n (A .most) plan words))) ∙ sym (run c′ size′)
     where
       run : (k : List ℕ) → length k ≡ 512 → stepWord n plan s tape k ≡ stepsOn (take (suc s) ss) tape (at k) (dest (getD ss s (Rand 0)))
       run k e =
-          program-word n plan A s l tape k
+          held-at (program n plan) ss (program-words n plan) (words-good n (A .most) plan words) s l tape k
           ∙ ap (λ (f : Cells). f (dest (getD ss s (Rand 0)))) (exec-on (take (suc s) ss) (all-take (λ s. T (inProgram s)) (suc s) ss (words-good n (A .most) plan words)) k tape e)
 
 pub known-decide : KnownDecide

@@ -1,5 +1,5 @@
 -- `share_run::run::run_answer` meets its contract.
-use mathlib.Core.Path.{_≡_, sym, _∙_}
+use mathlib.Core.Path.{sym, _∙_}
 use borrow.Author.Needs.{needs}
 use denote.Ref.{now}
 use Rattle.word.specs.Encoding.{programStep}
