@@ -10,7 +10,7 @@ use lib.Seq.{getD-drop}
 use Rattle.word.specs.Layout.{cell}
 use Rattle.masking.specs.Foretold.{Accepted, foretoldTape}
 use Rattle.masking.specs.Machine.{stepsOf}
-use Rattle.masking.specs.Reads.{knownAfter, memberOf, readsOnly}
+use Rattle.checks.specs.Unset.{knownAfter, memberOf, readsOnly}
 use Rattle.masking.specs.Translation.{program}
 use Rattle.and_parts.specs.inner.Effects.{Ran}
 use Rattle.binary64.specs.Operations.{Operation}

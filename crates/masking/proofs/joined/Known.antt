@@ -17,10 +17,12 @@ use Rattle.word.specs.Layout.{cell}
 use Rattle.word.specs.Table.{dest, reads, Each, allIn}
 use Rattle.word.proofs.Ranges.{both, tested-each, within-cells}
 use Rattle.word.proofs.Together.{taken-rule}
+use Rattle.checks.proofs.Unset.{passes-on}
 use Rattle.masking.specs.Translation.{scratch, blocks, laidOut, program}
 use Rattle.masking.specs.Foretold.{Accepted}
 use Rattle.masking.specs.Machine.{exec, execSteps}
-use Rattle.masking.specs.Reads.{memberOf, reading, readsOnly, knownAfter, AgreeIn, stepWord, KnownDecide}
+use Rattle.checks.specs.Unset.{memberOf, readsOnly, knownAfter}
+use Rattle.masking.specs.Reads.{AgreeIn, stepWord, KnownDecide}
 use Rattle.masking.proofs.emitted.Tests.{or-elim, all-take}
 use Rattle.masking.proofs.emitted.Places.{share-register}
 use Rattle.masking.proofs.emitted.Steps.{PlanWords, taken-kind, planSteps, blocks-append, program-words, words-good, words-steps}
@@ -33,14 +35,11 @@ use Rattle.masking.proofs.secret.Programs.{steps-length, held-at}
 -- it has no bad word
 reads-words : (plan known : List ℕ) → T (readsOnly plan known) → PlanWords plan
 reads-words [] known h = tt
-reads-words (w ∷ ws) known h = by (planStep w) refl (reads-words ws) h
-  where
-    by : (d : Decoded) → planStep w ≡ d → ((ks : List ℕ) → T (readsOnly ws ks) → PlanWords ws) → T (reading d known (readsOnly ws)) → PlanWords (w ∷ ws)
-    by (Good s) e rest t = (
-      record { step = s; apart = e; inRange = taken-rule inPlan w s e; kind = taken-kind inPlan w s e },
-      rest (dest s ∷ known) (both (allIn (memberOf known) (reads s)) (readsOnly ws (dest s ∷ known)) t .1),
+reads-words (w ∷ ws) known h =
+    let p = passes-on known w ws h in (
+      record { step = p .step; apart = p .apart; inRange = taken-rule inPlan w (p .step) (p .apart); kind = taken-kind inPlan w (p .step) (p .apart) },
+      reads-words ws (dest (p .step) ∷ known) (p .rest),
     )
-    by Bad e rest t = absurd t
 
 -- registers that are known
 abbrev Known : List ℕ → Some
@@ -69,11 +68,12 @@ module _ (n : ℕ) where
       → Decides (SharesOf n (Known known)) (blocks scratch n (planSteps plan)) (SharesOf n (Known (knownAfter plan known)))
   plan-decides [] p known h = λ k q. q
   plan-decides (w ∷ ws) p known h =
-      let s = p .0 .step in
-      let t = both (allIn (memberOf known) (reads s)) (readsOnly ws (dest s ∷ known)) (rw (p .0 .apart) at h) in
-      rw (p .0 .apart, blocks-append scratch n (laidOut s) (planSteps ws))
+      let t = passes-on known w ws h in
+      let s = t .step in
+      rw (t .apart, blocks-append scratch n (laidOut s) (planSteps ws))
       (decides-then (SharesOf n (Known known)) (SharesOf n (Known (dest s ∷ known))) (SharesOf n (Known (knownAfter ws (dest s ∷ known))))
-      (blocks scratch n (laidOut s)) (blocks scratch n (planSteps ws)) (step-decides known s (p .0 .inRange) (t .0)) (plan-decides ws (p .1) (dest s ∷ known) (t .1)))
+      (blocks scratch n (laidOut s)) (blocks scratch n (planSteps ws)) (step-decides known s (taken-rule inPlan w s (t .apart)) (t .reads-known))
+      (plan-decides ws (p .1) (dest s ∷ known) (t .rest)))
 
 -- ---- the law
 module _ (n : ℕ) (plan known tape c c′ : List ℕ) (h : T (readsOnly plan known)) (size : length c ≡ 512) (size′ : length c′ ≡ 512) (agree : AgreeIn n known c c′) where
