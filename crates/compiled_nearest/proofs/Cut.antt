@@ -9,7 +9,7 @@ use Rattle.word.specs.Encoding.{named, put}
 use Rattle.word.specs.Encoding as encoding
 use Rattle.word.specs.Layout.{tapeOf}
 use Rattle.masking.specs.Foretold.{foretoldTape}
-use Rattle.masking.specs.Reads.{knownAfter, memberOf, readsOnly}
+use Rattle.checks.specs.Unset.{knownAfter, memberOf, readsOnly}
 use Rattle.masking.proofs.emitted.Counts.{by-count}
 use Rattle.masked_call.specs.inner.Inner.{GoodPlan, TakesTape}
 use Rattle.plans.specs.words.NearestPlan.{nearestPlan}

@@ -9,7 +9,7 @@ use lib.ListN.{length, getD, drop}
 use lib.Seq.{getD-drop}
 use Rattle.masking.specs.Foretold.{Accepted}
 use Rattle.masking.specs.Machine.{stepsOf}
-use Rattle.masking.specs.Reads.{knownAfter, memberOf, readsOnly}
+use Rattle.checks.specs.Unset.{knownAfter, memberOf, readsOnly}
 use Rattle.masking.specs.Translation.{program}
 use Rattle.and_parts.specs.inner.Effects.{Enough, Ran}
 use Rattle.binary64.specs.Operations.{Operation}

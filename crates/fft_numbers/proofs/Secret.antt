@@ -15,6 +15,7 @@ use Rattle.masking.specs.Machine.{rands}
 use Rattle.masking.specs.Runs.{standing}
 use Rattle.masking.specs.Secrecy.{Tape, Pairing, doneAfter, wordAfter, Hidden}
 use Rattle.masking.proofs.emitted.Counts.{plan-counts}
+use Rattle.masking.proofs.OneRun.{translated-taken}
 use Rattle.masking.proofs.InARow.{each-run, rands-take}
 use Rattle.masking.proofs.secret.InTurn.{cleaned, cleaned-tape, cleaned-same, first-tape, rest-tape, same, in-turn, there-first, there-rest}
 use Rattle.binary64.specs.Operations.{Operation}
@@ -41,7 +42,7 @@ reached-by n plan A cells before part size enough step inside =
     let all : length tape ≡ length before + length part = length-append before part in
     let some : rands (take (suc step) P) ≤ foretoldTape n plan = le-trans (rands-take P (suc step)) (le-of-eq (C .tape)) in
     let R =
-    each-run P tape cells (length before) (C .longest) (C .good) (standing cells 0 (length before))
+    each-run P tape cells (length before) (translated-taken n plan A) (standing cells 0 (length before))
     (record { within = omega arith; tapeAt = sym (add-zero (length before)); inTape = omega arith; cells = refl; size = size }) (suc step) in
     let m : min (suc step) (length P - 0) ≡ suc step = omega arith in
     add-zero _ ∙ ap (λ (a : Answer). a .words) (R .else (omega arith)) ∙ m

@@ -11,7 +11,7 @@ use Rattle.word.specs.declared.step.Step.{Step}
 use Rattle.word.specs.Layout.{cell}
 use Rattle.masking.specs.Translation.{shares, program}
 use Rattle.masking.specs.Foretold.{Accepted, foretoldTape}
-use Rattle.masking.specs.Reads.{knownAfter, memberOf, readsOnly}
+use Rattle.checks.specs.Unset.{knownAfter, memberOf, readsOnly}
 use Rattle.masking.specs.Machine.{stepsOf, execSteps, randsOf}
 use Rattle.masking.proofs.emitted.Rising.{length-from}
 use Rattle.masking.proofs.emitted.Counts.{plan-counts}

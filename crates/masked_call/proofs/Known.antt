@@ -13,7 +13,8 @@ use Rattle.word.proofs.Ranges.{both}
 use Rattle.masking.specs.Translation.{program}
 use Rattle.masking.specs.Machine.{exec, stepsOf}
 use Rattle.masking.specs.Foretold.{Accepted, foretoldTape}
-use Rattle.masking.specs.Reads.{memberOf, readsOnly, knownAfter, stepWord}
+use Rattle.checks.specs.Unset.{memberOf, readsOnly, knownAfter}
+use Rattle.masking.specs.Reads.{stepWord}
 use Rattle.masking.proofs.emitted.Tests.{or-elim}
 use Rattle.masking.proofs.joined.Known.{known-decide}
 use Rattle.and_parts.specs.inner.Effects.{Ran}

@@ -13,6 +13,7 @@ use Rattle.masking.specs.Machine.{stepsOf, exec, rands}
 use Rattle.masking.specs.Runs.{due, standing}
 use Rattle.masking.proofs.emitted.Counts.{plan-counts}
 use Rattle.masking.specs.Demand3.{EachRun}
+use Rattle.masking.proofs.OneRun.{translated-taken}
 use Rattle.masking.proofs.InARow.{each-run}
 use Rattle.masked_call.specs.Shares.{placed, finished}
 use Rattle.masked_call.specs.WholeRun.{WholeRun, RunsWhole}
@@ -38,9 +39,8 @@ module _ (n : ℕ) (plan x y tape : List ℕ) (A : Accepted n plan) where
   begun : EachRun P tape (standing (placed x y) 0 0) (length P)
   unfolding placed
   begun =
-      let C = plan-counts n plan A in
       let size : length (placed x y) ≡ 512 = placed-size 1 0 y _ ∙ placed-size 0 0 x (replicate 512 0) ∙ length-replicate {A = ℕ} 512 0 in
-      each-run P tape (placed x y) 0 (C .longest) (C .good) _ (record { within = omega arith; tapeAt = refl; inTape = omega arith; cells = refl; size = size }) (length P)
+      each-run P tape (placed x y) 0 (translated-taken n plan A) _ (record { within = omega arith; tapeAt = refl; inTape = omega arith; cells = refl; size = size }) (length P)
 
   -- it does all of it where the tape is long enough, and is turned down where not
   pub whole-run : WholeRun plan n x y tape

@@ -3,7 +3,7 @@
 use mathlib.Core.Path.{_≡_, refl, sym, ap, ap₂, _∙_, subst}
 use mathlib.Core.List.{List}
 use Prim.Native.Nat.{ℕ, _+_, _-_, _≤_}
-use native.Mathlib.Nat.{add-zero, zero-add, add-left-cancel, le-trans, le-of-eq}
+use native.Mathlib.Nat.{le-trans, le-of-eq}
 use native.Mathlib.Omega.{arith}
 use lib.Dec.{T}
 use lib.ListN.{length, take, drop, take-append-drop}
@@ -20,8 +20,9 @@ use Rattle.masking.proofs.emitted.Counts.{plan-counts}
 use Rattle.masking.proofs.joined.Cells.{drop-words}
 use Rattle.masking.proofs.joined.Plan.{joined-after}
 use Rattle.masking.proofs.joined.Wiped.{wiped-after}
-use Rattle.masking.proofs.InARow.{Reached, each-run, all-reached, place-sum, tape-sum, rands-take, due-rands, done-answer}
-use Rattle.masking.proofs.secret.SecretRuns.{After, secret}
+use Rattle.masking.proofs.OneRun.{Taken, translated-taken}
+use Rattle.masking.proofs.InARow.{each-run, begun-reached, place-is, cells-are, used-are, tape-sum, rands-take, due-rands, done-answer}
+use Rattle.masking.proofs.secret.SecretRuns.{secret}
 
 -- the words that translate a plan's first k words are the program's first
 first-words : (n : ℕ) (plan : List ℕ) (k m : ℕ) → m ≡ length (program n (take k plan)) → take m (program n plan) ≡ program n (take k plan)
@@ -36,71 +37,56 @@ module _ (n : ℕ) (plan : List ℕ) (A : Accepted n plan) (start tape : List �
   abbrev st₀ : State
   st₀ = begun n plan start tape p₀
 
-  abbrev Here : State → Type 0
-  Here = Reached P tape start p₀ (plan-counts n plan A .longest) (plan-counts n plan A .good)
+  abbrev taken : Taken P
+  taken = translated-taken n plan A
 
-  at-start : Here st₀
-  at-start = record { within = omega arith; tapeAt = sym (add-zero p₀); inTape = inside; cells = refl; size = S .size }
+  abbrev m : List ℕ → ℕ
+  m budgets = wordsDone P tape st₀ budgets
 
-  reached : (budgets : List ℕ) → Here (inARow P tape st₀ budgets)
-  reached = all-reached P tape start p₀ (plan-counts n plan A .longest) (plan-counts n plan A .good) st₀ at-start
+  cells : (budgets : List ℕ) → inARow P tape st₀ budgets .cells ≡ exec (take (m budgets) P) (drop p₀ tape) start
+  cells = cells-are P tape start p₀ taken (S .size) inside
 
-  module _ (budgets : List ℕ) where
-    abbrev m : ℕ
-    m = wordsDone P tape st₀ budgets
-
-    at-m : inARow P tape st₀ budgets .place ≡ m
-    at-m = place-sum P tape st₀ budgets ∙ zero-add (wordsDone P tape st₀ budgets)
-
-    cells-are : inARow P tape st₀ budgets .cells ≡ exec (take m P) (drop p₀ tape) start
-    cells-are = reached budgets .cells ∙ ap (λ (k : ℕ). exec (take k P) (drop p₀ tape) start) at-m
-
-    used-are : tapeUsed P tape st₀ budgets ≡ rands (take m P)
-    used-are =
-        add-left-cancel p₀ (sym (tape-sum P tape st₀ budgets) ∙ reached budgets .tapeAt ∙ ap (λ (k : ℕ). p₀ + rands (take k P)) at-m)
+  used : (budgets : List ℕ) → tapeUsed P tape st₀ budgets ≡ rands (take (m budgets) P)
+  used = used-are P tape start p₀ taken (S .size) inside
 
   -- over a tape as long as foretold there is always enough left
   enough : foretoldTape n plan ≤ length tape - p₀ → (before : List ℕ) (b : ℕ) → runAnswer P tape (inARow P tape st₀ before) b .number ≡ 0
   enough h before b =
       let st = inARow P tape st₀ before in
-      let r = reached before in
+      let r = begun-reached P tape start p₀ taken (S .size) inside before in
       let l : rands (take (st .place + length (due P (st .place) b)) P) ≤ foretoldTape n plan =
       le-trans (rands-take P (st .place + length (due P (st .place) b))) (le-of-eq (plan-counts n plan A .tape)) in
-      ap (λ a. a .number) (done-answer P tape start p₀ (plan-counts n plan A .longest) (plan-counts n plan A .good) st r b
+      ap (λ a. a .number) (done-answer P tape start p₀ taken st r b
       (omega (arith, due-rands P (st .place) b, r .tapeAt, l)))
 
   -- AND's scratch cells
   wiped : Words tape → (budgets : List ℕ) (k : ℕ) → m budgets ≡ length (program n (take k plan)) → T (holdsAndOrAdd (take k plan))
       → Wiped n (inARow P tape st₀ budgets .cells)
   wiped W budgets k e h =
-      subst (Wiped n) (sym (cells-are budgets ∙ ap (λ ws. exec ws (drop p₀ tape) start) (first-words n plan k (m budgets) e)))
+      subst (Wiped n) (sym (cells budgets ∙ ap (λ ws. exec ws (drop p₀ tape) start) (first-words n plan k (m budgets) e)))
       (wiped-after n plan A start (drop p₀ tape) (S .size) (drop-words tape W p₀) k h)
 
   in-a-row : Words tape → (budgets : List ℕ) → InARow n plan start tape p₀ budgets
   in-a-row W budgets =
       record {
-        each = λ before rest b e. each-run P tape start p₀ (plan-counts n plan A .longest) (plan-counts n plan A .good) (inARow P tape st₀ before) (reached before) b;
-        cells = cells-are budgets;
-        size = reached budgets .size;
-        rand = used-are budgets;
-        place = at-m budgets;
+        each = λ before rest b e. each-run P tape start p₀ taken (inARow P tape st₀ before) (begun-reached P tape start p₀ taken (S .size) inside before) b;
+        cells = cells budgets;
+        size = begun-reached P tape start p₀ taken (S .size) inside budgets .size;
+        rand = used budgets;
+        place = place-is P tape start p₀ taken (S .size) inside budgets;
         tapeMoved = tape-sum P tape st₀ budgets;
-        joins = λ k e r l. ap (λ c. joined n c r) (cells-are budgets ∙ ap (λ ws. exec ws (drop p₀ tape) start) (first-words n plan k (m budgets) e)) ∙ joined-after n plan A start (drop p₀ tape) (S .size) (S .words) (drop-words tape W p₀) k r l;
-        foretold = λ k e. used-are budgets ∙ ap rands (first-words n plan k (m budgets) e) ∙ plan-counts n (take k plan) (take-accepted n plan A k) .tape;
+        joins = λ k e r l. ap (λ c. joined n c r) (cells budgets ∙ ap (λ ws. exec ws (drop p₀ tape) start) (first-words n plan k (m budgets) e)) ∙ joined-after n plan A start (drop p₀ tape) (S .size) (S .words) (drop-words tape W p₀) k r l;
+        foretold = λ k e. used budgets ∙ ap rands (first-words n plan k (m budgets) e) ∙ plan-counts n (take k plan) (take-accepted n plan A k) .tape;
         wiped-whole = λ e h.
             wiped W budgets (length plan) (e ∙ ap (λ p. length (program n p)) (sym (take-length plan))) (subst (λ p. T (holdsAndOrAdd p)) (sym (take-length plan)) h);
         wiped = wiped W budgets;
         enough = λ h before rest b e. enough h before b;
       }
 
--- what a list of runs leaves in the cells
-pub runs-after : (n : ℕ) (plan : List ℕ) → Accepted n plan → After n plan
-runs-after n plan A start tape S p₀ inside budgets = cells-are n plan A start tape S p₀ inside budgets
-
 -- THE THEOREM
 pub demand3 : Demand3Holds
 demand3 n plan A =
     record {
       runs = λ start tape S W p₀ inside budgets. in-a-row n plan A start tape S p₀ inside W budgets;
-      secret = secret n plan A (runs-after n plan A);
+      secret = secret n plan A;
     }

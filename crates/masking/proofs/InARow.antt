@@ -1,28 +1,27 @@
 -- Share runs in a row: what a list of runs does to cells and places, run by run, whatever the tape holds.
--- Rests on Counts for the tape words of steps in a row.
+-- Rests on OneRun for a run's answer, on Counts for the tape words of steps in a row.
 use mathlib.Core.Path.{_≡_, refl, sym, ap, ap₂, _∙_, subst}
 use mathlib.Core.List.{List, [], _∷_, _++_}
 use Prim.Native.Nat.{ℕ, zero, suc, _+_, _-_, _≤_, _<_, min}
-use native.Mathlib.Nat.{add-assoc, add-zero, zero-min, min-zero, suc-min-suc}
+use native.Mathlib.Nat.{add-assoc, add-zero, zero-add, add-left-cancel, zero-min, min-zero, suc-min-suc}
 use native.Mathlib.Decide.{decLt}
 use native.Mathlib.Omega.{arith}
 use lib.Dec.{ltb}
-use lib.ListN.{length, getD, take, drop, length-take, length-drop, length-set, take-append-drop}
+use lib.ListN.{length, getD, take, drop, length-take, length-set, take-append-drop}
 use lib.Seq.{drop-drop, take-add}
-use borrow.Author.Tests.{lt-ltb, le-ltb, eq-eqb}
+use borrow.Author.Tests.{lt-ltb, le-ltb}
 use Rattle.word.specs.declared.step.Step.{Step}
 use Rattle.word.specs.declared.step.Decoded.{Decoded}
 use Rattle.word.specs.declared.step.Decoded.the-variants.{Good, Bad}
 use Rattle.checks.specs.declared.answer.Answer.{Answer}
 use Rattle.word.specs.Encoding.{programStep}
-use Rattle.word.specs.Layout.{programMax}
-use Rattle.checks.specs.Answers.{firstBad, done, refused, given, afterCall}
-use Rattle.checks.proofs.Checked.{program-check}
+use Rattle.checks.specs.Answers.{done, refused, given, afterCall}
 use Rattle.word.specs.Table.{dest, becomes}
 use Rattle.masking.specs.Machine.{takes, withStep, stepsOf, execStep, execSteps, randsOf, exec, rands}
-use Rattle.masking.specs.Runs.{State, due, runAnswer, moved, inARow, wordsDone, tapeUsed}
+use Rattle.masking.specs.Runs.{State, standing, due, runAnswer, moved, inARow, wordsDone, tapeUsed}
 use Rattle.masking.specs.Demand3.{EachRun}
 use Rattle.masking.proofs.emitted.Counts as counts
+use Rattle.masking.proofs.OneRun.{Taken, due-length, rest-inside}
 
 -- ---- words in a row
 pub steps-append : (p q : List ℕ) → stepsOf (p ++ q) ≡ stepsOf p ++ stepsOf q
@@ -68,10 +67,6 @@ due-take P m b = by b (drop m P)
         least (suc b) [] = ap (λ (k : ℕ). take k []) (min-zero (suc b))
         least (suc b) (x ∷ l) = ap (λ (k : ℕ). take k (x ∷ l)) (suc-min-suc b (length l)) ∙ ap (λ (r : List ℕ). x ∷ r) (least b l)
 
--- "the smaller of budget and words left"
-pub due-length : (P : List ℕ) (m b : ℕ) → length (due P m b) ≡ min b (length P - m)
-due-length P m b = length-take b (drop m P) ∙ ap (min b) (length-drop m P)
-
 -- the first m words with a run's words after them
 due-append : (P : List ℕ) (m b : ℕ) → take (m + length (due P m b)) P ≡ take m P ++ due P m b
 due-append P m b = take-add m (length (due P m b)) P ∙ ap (λ (r : List ℕ). take m P ++ r) (due-take P m b)
@@ -79,8 +74,17 @@ due-append P m b = take-add m (length (due P m b)) P ∙ ap (λ (r : List ℕ). 
 pub due-rands : (P : List ℕ) (m b : ℕ) → rands (take (m + length (due P m b)) P) ≡ rands (take m P) + rands (due P m b)
 due-rands P m b = ap rands (due-append P m b) ∙ rands-append (take m P) (due P m b)
 
+-- places move on by the sums that the answers report
+pub place-sum : (P tape : List ℕ) (st : State) (budgets : List ℕ) → inARow P tape st budgets .place ≡ st .place + wordsDone P tape st budgets
+place-sum P tape st [] = sym (add-zero (st .place))
+place-sum P tape st (b ∷ bs) = place-sum P tape (moved P tape st b) bs ∙ add-assoc (st .place) (runAnswer P tape st b .words) (wordsDone P tape (moved P tape st b) bs)
+
+pub tape-sum : (P tape : List ℕ) (st : State) (budgets : List ℕ) → inARow P tape st budgets .tapePlace ≡ st .tapePlace + tapeUsed P tape st budgets
+tape-sum P tape st [] = sym (add-zero (st .tapePlace))
+tape-sum P tape st (b ∷ bs) = tape-sum P tape (moved P tape st b) bs ∙ add-assoc (st .tapePlace) (runAnswer P tape st b .tape) (tapeUsed P tape (moved P tape st b) bs)
+
 -- ---- one program, tape and start
-module _ (P tape start : List ℕ) (p₀ : ℕ) (short : length P ≤ programMax) (good : firstBad programStep P ≡ length P) where
+module _ (P tape start : List ℕ) (p₀ : ℕ) (taken : Taken P) where
   -- a state that a list of runs can reach
   pub record Reached (st : State) : Type 0 where
     pub within : st .place ≤ length P
@@ -93,13 +97,7 @@ module _ (P tape start : List ℕ) (p₀ : ℕ) (short : length P ≤ programMax
     -- only the tape can be too short
     answer-is : runAnswer P tape st b
         ≡ given (ltb (length tape - st .tapePlace) (rands (due P (st .place) b))) (refused 6) (done (length (due P (st .place) b)) (rands (due P (st .place) b)))
-    answer-is =
-        program-check .next P (record { short = short; good = good }) _
-        ∙ rw (
-          eq-eqb (length (st .cells)) 512 (r .size),
-          le-ltb (length P) (st .place) (r .within),
-          le-ltb (length tape) (st .tapePlace) (r .inTape),
-        )
+    answer-is = taken _ ∙ rest-inside P tape st b (r .size) (r .within) (r .inTape)
 
     short-answer : length tape - st .tapePlace < rands (due P (st .place) b) → runAnswer P tape st b ≡ refused 6
     short-answer h = answer-is ∙ rw (lt-ltb _ _ h)
@@ -171,14 +169,27 @@ module _ (P tape start : List ℕ) (p₀ : ℕ) (short : length P ≤ programMax
   all-reached st r [] = r
   all-reached st r (b ∷ bs) = all-reached (moved P tape st b) (moved-reached st r b) bs
 
--- places move on by the sums that the answers report
-pub place-sum : (P tape : List ℕ) (st : State) (budgets : List ℕ) → inARow P tape st budgets .place ≡ st .place + wordsDone P tape st budgets
-place-sum P tape st [] = sym (add-zero (st .place))
-place-sum P tape st (b ∷ bs) = place-sum P tape (moved P tape st b) bs ∙ add-assoc (st .place) (runAnswer P tape st b .words) (wordsDone P tape (moved P tape st b) bs)
+  -- from program place 0: after a list of runs the cells are what the words done make of the start, and the tape words used are their RANDs
+  module _ (size : length start ≡ 512) (inside : p₀ ≤ length tape) where
+    abbrev begun : State
+    begun = standing start 0 p₀
 
-pub tape-sum : (P tape : List ℕ) (st : State) (budgets : List ℕ) → inARow P tape st budgets .tapePlace ≡ st .tapePlace + tapeUsed P tape st budgets
-tape-sum P tape st [] = sym (add-zero (st .tapePlace))
-tape-sum P tape st (b ∷ bs) = tape-sum P tape (moved P tape st b) bs ∙ add-assoc (st .tapePlace) (runAnswer P tape st b .tape) (tapeUsed P tape (moved P tape st b) bs)
+    pub begun-reached : (budgets : List ℕ) → Reached (inARow P tape begun budgets)
+    begun-reached = all-reached begun (record { within = omega arith; tapeAt = sym (add-zero p₀); inTape = inside; cells = refl; size = size })
+
+    module _ (budgets : List ℕ) where
+      abbrev m : ℕ
+      m = wordsDone P tape begun budgets
+
+      pub place-is : inARow P tape begun budgets .place ≡ m
+      place-is = place-sum P tape begun budgets ∙ zero-add m
+
+      pub cells-are : inARow P tape begun budgets .cells ≡ exec (take m P) (drop p₀ tape) start
+      cells-are = begun-reached budgets .cells ∙ ap (λ (k : ℕ). exec (take k P) (drop p₀ tape) start) place-is
+
+      pub used-are : tapeUsed P tape begun budgets ≡ rands (take m P)
+      used-are =
+          add-left-cancel p₀ (sym (tape-sum P tape begun budgets) ∙ begun-reached budgets .tapeAt ∙ ap (λ (k : ℕ). p₀ + rands (take k P)) place-is)
 
 -- no first words of a program hold more RAND than all
 pub rands-take : (P : List ℕ) (m : ℕ) → rands (take m P) ≤ rands P

@@ -1,44 +1,17 @@
--- What a plan reads and what its shares depend on, for "Work starts as zeros with operands placed": a test that no register is read but those known
--- at the start and those written before, and the statement that such a plan's results, and the words of its share program's steps, go by the known
--- registers and the tape alone. So an operation's code need not write the zeros.
+-- What a plan's shares depend on, for "Work starts as zeros with operands placed": the statement that the results of a plan which reads no register but
+-- those known at the start and those written before (checks' Unset), and the words of its share program's steps, go by the known registers and
+-- the tape alone. So an operation's code need not write the zeros.
 use mathlib.Core.Path.{_≡_}
-use mathlib.Core.Bool.{Bool, true, false, _&&_, _||_}
-use mathlib.Core.List.{List, [], _∷_}
+use mathlib.Core.List.{List}
 use Prim.Native.Nat.{ℕ, suc, _≤_, _<_}
-use lib.Dec.{T, eqb}
+use lib.Dec.{T}
 use lib.ListN.{length, getD, take}
-use Rattle.word.specs.declared.step.Decoded.{Decoded}
-use Rattle.word.specs.declared.step.Decoded.the-variants.{Good, Bad}
-use Rattle.word.specs.Encoding.{fieldD, planStep}
+use Rattle.word.specs.Encoding.{fieldD}
 use Rattle.word.specs.Layout.{cell}
-use Rattle.word.specs.Table.{dest, reads, allIn}
+use Rattle.checks.specs.Unset.{memberOf, readsOnly, knownAfter}
 use Rattle.masking.specs.Translation.{program}
 use Rattle.masking.specs.Foretold.{Accepted}
 use Rattle.masking.specs.Machine.{exec}
-
-abbrev pub memberOf : List ℕ → ℕ → Bool
-memberOf [] r = false
-memberOf (q ∷ qs) r = eqb q r || memberOf qs r
-
--- a word read: a step reads only known registers, and the one that it writes is known to the rest
-abbrev pub reading : Decoded → List ℕ → (List ℕ → Bool) → Bool
-reading (Good s) known rest = allIn (memberOf known) (reads s) && rest (dest s ∷ known)
-reading Bad known rest = false
-
--- a test that walks a plan's words in order: each step reads only registers that are known at the start or written by an earlier step. A bad
--- word fails it.
-abbrev pub readsOnly : List ℕ → List ℕ → Bool
-readsOnly [] known = true
-readsOnly (w ∷ ws) known = reading (planStep w) known (readsOnly ws)
-
--- the registers known after a word, and after a plan's words: those known before, and each one written
-abbrev pub written : Decoded → List ℕ → List ℕ
-written (Good s) known = dest s ∷ known
-written Bad known = known
-
-abbrev pub knownAfter : List ℕ → List ℕ → List ℕ
-knownAfter [] known = known
-knownAfter (w ∷ ws) known = knownAfter ws (written (planStep w) known)
 
 -- two lists of cells hold the same n shares of each of these registers
 abbrev pub AgreeIn : ℕ → List ℕ → List ℕ → List ℕ → Type 0

@@ -21,15 +21,17 @@ standing cells place tapePlace = record { cells = cells; place = place; tapePlac
 abbrev pub due : List ℕ → ℕ → ℕ → List ℕ
 due program place budget = take budget (drop place program)
 
--- "Share run (2 to 6)": too long; a bad word ("The whole program is checked first."); "exactly 512 cells"; a place past the end of
--- program or tape ("Place equal to the length is allowed."); "6 if those steps hold more RAND than tape remains"
-abbrev pub runAnswer : List ℕ → List ℕ → State → ℕ → Answer
-runAnswer program tape st budget =
-    programChecked program
-    (given (not (eqb (length (st .cells)) 512)) (refused 4)
+-- "Share run (2 to 6)" is a check of the program, "The whole program is checked first.", and then the rest: "exactly 512 cells"; a place past
+-- the end of program or tape ("Place equal to the length is allowed."); "6 if those steps hold more RAND than tape remains"; the counts
+abbrev pub runRest : List ℕ → List ℕ → State → ℕ → Answer
+runRest program tape st budget =
+    given (not (eqb (length (st .cells)) 512)) (refused 4)
     (given (ltb (length program) (st .place) || ltb (length tape) (st .tapePlace)) (refused 5)
     (given (ltb (length tape - st .tapePlace) (rands (due program (st .place) budget))) (refused 6)
-    (done (length (due program (st .place) budget)) (rands (due program (st .place) budget))))))
+    (done (length (due program (st .place) budget)) (rands (due program (st .place) budget)))))
+
+abbrev pub runAnswer : List ℕ → List ℕ → State → ℕ → Answer
+runAnswer program tape st budget = programChecked program (runRest program tape st budget)
 
 -- the cells afterwards: what those words make of them, or as they were
 abbrev pub runCells : List ℕ → List ℕ → State → ℕ → List ℕ

@@ -3,7 +3,7 @@ use mathlib.Core.List.{List}
 use Prim.Native.Nat.{ℕ}
 use lib.Dec.{T, ltb}
 use Rattle.word.specs.Table.{allIn}
-use Rattle.masking.specs.Reads.{readsOnly}
+use Rattle.checks.specs.Unset.{readsOnly}
 use Rattle.binary64.specs.Operations.{Operation, Product, Sum, Floor, Truncate, Nearest, onWords}
 use Rattle.plans.specs.Computes.{Computes}
 use Rattle.plans.specs.BuiltIns.{described, planOf}

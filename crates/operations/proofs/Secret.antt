@@ -1,6 +1,6 @@
 -- The operations' secrecy: each step of a plan's share program has demand 3's secrecy in terms of the operands' shares, over any plan that
 -- computes an operation and from any cells, since the words of its steps do not go by the cells that the operands do not fill. Rests on masking's
--- secrecy of a step, its Demand3 (what runs leave) and Placed.
+-- secrecy of a step, there and over lists of runs, and on Placed.
 use mathlib.Core.Path.{_≡_, sym, _∙_}
 use mathlib.Core.List.{List}
 use Prim.Native.Nat.{ℕ, _≤_}
@@ -8,8 +8,7 @@ use native.Mathlib.Omega.{arith}
 use lib.ListN.{getD, length}
 use Rattle.masking.specs.Secrecy.{Hidden}
 use Rattle.masking.proofs.secret.Secret.{step-secret}
-use Rattle.masking.proofs.secret.SecretRuns.{hidden}
-use Rattle.masking.proofs.Demand3.{runs-after}
+use Rattle.masking.proofs.secret.SecretRuns.{plan-hidden}
 use Rattle.plans.specs.Computes.{Computes}
 use Rattle.masked_call.specs.Shares.{placed, placedOver}
 use Rattle.operations.specs.Masked.{AnyStart, Operand, Secretive, StepSecret}
@@ -27,7 +26,7 @@ operation-secret plan op C start n least most s inside =
       hidden = λ x y x′ y′ c c′ X Y X′ Y′ sc sc′ ex ey.
           let h = S .2 (placed x y) (placed x′ y′) (placed-start x y (few x X) (few y Y) (X .words) (Y .words)) (placed-start x′ y′ (few x′ X′) (few y′ Y′) (X′ .words) (Y′ .words))
           (placed-agree x y x′ y′ (few x X) (few y Y) (few x′ X′) (few y′ Y′) (S .0) ex ey) in
-          hidden n plan A (runs-after n plan A) s (placedOver x y c) (placedOver x′ y′ c′) (over-start x y (X .words) (Y .words) c sc) (over-start x′ y′ (X′ .words) (Y′ .words) c′ sc′)
+          plan-hidden n plan A s (placedOver x y c) (placedOver x′ y′ c′) (over-start x y (X .words) (Y .words) c sc) (over-start x′ y′ (X′ .words) (Y′ .words) c′ sc′)
           (record {
             pairing = h .pairing;
             equal = λ tape t.

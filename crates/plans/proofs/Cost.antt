@@ -12,7 +12,7 @@ use borrow.Author.Tests.{eqb-true}
 use Rattle.word.specs.Encoding.{row, named, put, kindOf}
 use Rattle.word.specs.Layout.{pairCount, tapeOf}
 use Rattle.masking.specs.Foretold.{foretoldTape}
-use Rattle.masking.specs.Reads.{readsOnly}
+use Rattle.checks.specs.Unset.{readsOnly}
 use Rattle.plans.proofs.Tests.{every, each}
 use Rattle.binary64.specs.Operations.{Product, Sum, Floor, Truncate, Nearest}
 use Rattle.plans.specs.Cost.{Figures, ofKind, maskedAnds}

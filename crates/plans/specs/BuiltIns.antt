@@ -2,7 +2,7 @@
 use mathlib.Core.List.{List, [], _∷_}
 use Prim.Native.Nat.{ℕ}
 use lib.Dec.{T}
-use Rattle.masking.specs.Reads.{readsOnly}
+use Rattle.checks.specs.Unset.{readsOnly}
 use Rattle.binary64.specs.Operations.{Operation, Product, Sum, Floor, Truncate, Nearest, onWords}
 use Rattle.plans.specs.Computes.{Computes}
 use Rattle.plans.specs.Cost.{Figures}

@@ -1,4 +1,4 @@
--- One turn of a loop over share words: its effect on cells and tape. Rests on masking's InARow.
+-- One turn of a loop over share words: its effect on cells and tape. Rests on masking's OneRun and InARow.
 use mathlib.Core.Path.{_≡_, sym, ap, _∙_}
 use mathlib.Core.List.{List, [], _∷_, _++_}
 use Prim.Native.Nat.{ℕ, _+_, _-_, _<_, min}
@@ -8,7 +8,8 @@ use lib.ListN.{length, getD, take, drop, length-drop}
 use lib.Seq.{drop-cons, drop-drop, take-all}
 use Rattle.masking.specs.Machine.{exec, rands}
 use Rattle.masking.specs.Runs.{due}
-use Rattle.masking.proofs.InARow.{exec-append, rands-append, due-length, due-take}
+use Rattle.masking.proofs.OneRun.{due-length}
+use Rattle.masking.proofs.InARow.{exec-append, rands-append, due-take}
 
 module _ (words : List ℕ) (i : ℕ) (h : i < length words) where
   next-word : drop i words ≡ (getD words i 0 ∷ []) ++ drop (i + 1) words

@@ -2,7 +2,8 @@
 ghost use mathlib.Core.Path.{_≡_};
 ghost use Prim.Native.Nat.{min};
 ghost use Rattle.masking.specs.Demand3.{Demand3Holds};
-ghost use Rattle.masking.specs.Runs.{runAnswer, runCells, standing, stepAnswer, stepCells};
+ghost use Rattle.masking.specs.Runs.{runAnswer, runCells, runRest, standing, stepAnswer, stepCells};
+ghost use Rattle.share_run.specs.inner.Good.{AllGood};
 use crate::exec::exec;
 use crate::exec::rands;
 use checks::answer::Answer;
@@ -15,8 +16,8 @@ fn smaller(a: usize, b: usize) -> usize
     if a < b { a } else { b }
 }
 
-// The answer of a share run: the turn-downs in number order.
-fn run_answer(
+// The rest of a share run's answer, behind the check of its program: the turn-downs from 4 on in number order, and the counts.
+fn rest_answer(
     program: &[u32],
     place: usize,
     tape: &[u64],
@@ -24,12 +25,9 @@ fn run_answer(
     budget: usize,
     cells: &[u64],
 ) -> Answer
-    ensures { λ r. ⌜ r ≡ runAnswer (now (program .entry)) (now (tape .entry)) (standing (now (cells .entry)) place «tape_place») budget ⌝ }
+    requires { ⌜ AllGood (now program) ⌝ }
+    ensures { λ r. ⌜ r ≡ runRest (now (program .entry)) (now (tape .entry)) (standing (now (cells .entry)) place «tape_place») budget ⌝ }
 {
-    let checked = check_program(program);
-    if checked.number != 0 {
-        return checked;
-    }
     if cells.len() != StepWord::CELLS {
         return Answer::refused(4);
     }
@@ -46,6 +44,24 @@ fn run_answer(
         return Answer::refused(6);
     }
     Answer::done(words, used)
+}
+
+// The answer of a share run: the check of its program, then the rest.
+fn run_answer(
+    program: &[u32],
+    place: usize,
+    tape: &[u64],
+    tape_place: usize,
+    budget: usize,
+    cells: &[u64],
+) -> Answer
+    ensures { λ r. ⌜ r ≡ runAnswer (now (program .entry)) (now (tape .entry)) (standing (now (cells .entry)) place «tape_place») budget ⌝ }
+{
+    let checked = check_program(program);
+    if checked.number != 0 {
+        return checked;
+    }
+    rest_answer(program, place, tape, tape_place, budget, cells)
 }
 
 // Does the smaller of `budget` and the words left, from `place` in the program and `tape_place` on the tape, and reports words done and

@@ -11,7 +11,7 @@ use Rattle.word.specs.Encoding.{planStep}
 use Rattle.checks.specs.Answers.{firstBad}
 use Rattle.plain.specs.Machine.{run}
 use Rattle.masking.specs.Foretold.{foretoldTape}
-use Rattle.masking.specs.Reads.{readsOnly}
+use Rattle.checks.specs.Unset.{readsOnly}
 use Rattle.binary64.specs.Product.{product}
 use Rattle.binary64.specs.Sum.{sum}
 use Rattle.binary64.specs.Floor.{floor}

@@ -24,7 +24,8 @@ use Rattle.masking.specs.Counts.{usedCell, allOf, StepCounts, PlanCounts, Count
 use Rattle.masking.specs.Wiped.{holdsAndOrAdd, Wiped}
 use Rattle.masking.specs.Secrecy.{Secret}
 use Rattle.masking.specs.Demand3.{EachRun, InARow, Demand3}
-use Rattle.masking.specs.Reads.{knownAfter, memberOf, readsOnly, KnownDecide}
+use Rattle.checks.specs.Unset.{knownAfter, memberOf, readsOnly}
+use Rattle.masking.specs.Reads.{KnownDecide}
 use Rattle.masking.specs.WipedFirst.{wipedFirst}
 use Rattle.masking.specs.EveryShare.{notInEvery, constInEvery, JoinsWrongly}
 use Rattle.masking.proofs.emitted.Tests.{or-right}

@@ -150,6 +150,11 @@ steps-of-words (s ∷ ss) h =
     let e = both (inProgram s) (allOf inProgram ss) h in
     ap₂ withStep (program-exact .back s (e .0) .1) (steps-of-words ss (e .1))
 
+-- and so do the first m of them
+pub steps-of-first : (ss : List Step) → All (λ s. T (inProgram s)) ss → (m : ℕ) → stepsOf (take m (map wordOf ss)) ≡ take m ss
+steps-of-first ss good m =
+    ap stepsOf (map-take m ss) ∙ steps-of-words (take m ss) (all-tested inProgram (take m ss) (all-take (λ s. T (inProgram s)) m ss good))
+
 -- ---- the steps of a plan without a bad word
 
 steps-within : (plan : List ℕ) → PlanWords plan → All (λ s. T (within 40 s)) (planSteps plan)
@@ -165,10 +170,7 @@ module _ (n : ℕ) (most : n ≤ 8) (plan : List ℕ) (words : PlanWords plan) w
 
   -- the share steps of the first m words
   words-take : (m : ℕ) → stepsOf (take m (program n plan)) ≡ take m (blocks scratch n (planSteps plan))
-  words-take m =
-      ap (λ (r : List ℕ). stepsOf (take m r)) (program-words n plan) ∙ ap stepsOf (map-take m (blocks scratch n (planSteps plan)))
-      ∙ steps-of-words (take m (blocks scratch n (planSteps plan)))
-      (all-tested inProgram (take m (blocks scratch n (planSteps plan))) (all-take (λ s. T (inProgram s)) m (blocks scratch n (planSteps plan)) words-good))
+  words-take m = ap (λ (r : List ℕ). stepsOf (take m r)) (program-words n plan) ∙ steps-of-first (blocks scratch n (planSteps plan)) words-good m
 
   pub words-steps : stepsOf (program n plan) ≡ blocks scratch n (planSteps plan)
   words-steps =

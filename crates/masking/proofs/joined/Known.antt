@@ -1,5 +1,5 @@
 -- Known registers decide a plan's results and the words of its steps (`known-decide`): its words' steps on registers read known registers alone, and
--- so do their share steps by DecidedBlocks. Rests also on emitted's Steps and secret's Secret (words as steps).
+-- so do their share steps by DecidedBlocks. Rests also on emitted's Steps and secret's Programs (words as steps).
 use mathlib.Core.Path.{_≡_, refl, sym, ap, _∙_}
 use mathlib.Core.Bool.{not}
 use mathlib.Core.List.{List, [], _∷_}
@@ -17,30 +17,29 @@ use Rattle.word.specs.Layout.{cell}
 use Rattle.word.specs.Table.{dest, reads, Each, allIn}
 use Rattle.word.proofs.Ranges.{both, tested-each, within-cells}
 use Rattle.word.proofs.Together.{taken-rule}
+use Rattle.checks.proofs.Unset.{passes-on}
 use Rattle.masking.specs.Translation.{scratch, blocks, laidOut, program}
 use Rattle.masking.specs.Foretold.{Accepted}
 use Rattle.masking.specs.Machine.{exec, execSteps}
-use Rattle.masking.specs.Reads.{memberOf, reading, readsOnly, knownAfter, AgreeIn, stepWord, KnownDecide}
+use Rattle.checks.specs.Unset.{memberOf, readsOnly, knownAfter}
+use Rattle.masking.specs.Reads.{AgreeIn, stepWord, KnownDecide}
 use Rattle.masking.proofs.emitted.Tests.{or-elim, all-take}
 use Rattle.masking.proofs.emitted.Places.{share-register}
-use Rattle.masking.proofs.emitted.Steps.{PlanWords, taken-kind, planSteps, blocks-append, words-good, words-steps}
+use Rattle.masking.proofs.emitted.Steps.{PlanWords, taken-kind, planSteps, blocks-append, program-words, words-good, words-steps}
 use Rattle.masking.proofs.joined.Cells.{Cells, at, stepsOn, exec-on}
 use Rattle.masking.proofs.joined.Plan.{laid-kinds}
 use Rattle.masking.proofs.joined.Decided.{Some, plus, Decides, Same, run-same, words-same, decides-to, decides-then}
 use Rattle.masking.proofs.joined.DecidedBlocks.{SharesOf, blocks-decide, laid-decides}
-use Rattle.masking.proofs.secret.Secret.{steps-length, program-word}
+use Rattle.masking.proofs.secret.Programs.{steps-length, held-at}
 
 -- it has no bad word
 reads-words : (plan known : List ℕ) → T (readsOnly plan known) → PlanWords plan
 reads-words [] known h = tt
-reads-words (w ∷ ws) known h = by (planStep w) refl (reads-words ws) h
-  where
-    by : (d : Decoded) → planStep w ≡ d → ((ks : List ℕ) → T (readsOnly ws ks) → PlanWords ws) → T (reading d known (readsOnly ws)) → PlanWords (w ∷ ws)
-    by (Good s) e rest t = (
-      record { step = s; apart = e; inRange = taken-rule inPlan w s e; kind = taken-kind inPlan w s e },
-      rest (dest s ∷ known) (both (allIn (memberOf known) (reads s)) (readsOnly ws (dest s ∷ known)) t .1),
+reads-words (w ∷ ws) known h =
+    let p = passes-on known w ws h in (
+      record { step = p .step; apart = p .apart; inRange = taken-rule inPlan w (p .step) (p .apart); kind = taken-kind inPlan w (p .step) (p .apart) },
+      reads-words ws (dest (p .step) ∷ known) (p .rest),
     )
-    by Bad e rest t = absurd t
 
 -- registers that are known
 abbrev Known : List ℕ → Some
@@ -69,11 +68,12 @@ module _ (n : ℕ) where
       → Decides (SharesOf n (Known known)) (blocks scratch n (planSteps plan)) (SharesOf n (Known (knownAfter plan known)))
   plan-decides [] p known h = λ k q. q
   plan-decides (w ∷ ws) p known h =
-      let s = p .0 .step in
-      let t = both (allIn (memberOf known) (reads s)) (readsOnly ws (dest s ∷ known)) (rw (p .0 .apart) at h) in
-      rw (p .0 .apart, blocks-append scratch n (laidOut s) (planSteps ws))
+      let t = passes-on known w ws h in
+      let s = t .step in
+      rw (t .apart, blocks-append scratch n (laidOut s) (planSteps ws))
       (decides-then (SharesOf n (Known known)) (SharesOf n (Known (dest s ∷ known))) (SharesOf n (Known (knownAfter ws (dest s ∷ known))))
-      (blocks scratch n (laidOut s)) (blocks scratch n (planSteps ws)) (step-decides known s (p .0 .inRange) (t .0)) (plan-decides ws (p .1) (dest s ∷ known) (t .1)))
+      (blocks scratch n (laidOut s)) (blocks scratch n (planSteps ws)) (step-decides known s (taken-rule inPlan w s (t .apart)) (t .reads-known))
+      (plan-decides ws (p .1) (dest s ∷ known) (t .rest)))
 
 -- ---- the law
 module _ (n : ℕ) (plan known tape c c′ : List ℕ) (h : T (readsOnly plan known)) (size : length c ≡ 512) (size′ : length c′ ≡ 512) (agree : AgreeIn n known c c′) where
@@ -98,11 +98,11 @@ module _ (n : ℕ) (plan known tape c c′ : List ℕ) (h : T (readsOnly plan kn
 
   on-the-way : Accepted n plan → (s : ℕ) → s < length (program n plan) → stepWord n plan s tape c ≡ stepWord n plan s tape c′
   on-the-way A s l =
-      run c size ∙ words-same _ _ ss (plan-decides n plan words known h) tape (at c) (at c′) start s (omega (arith, steps-length n plan A)) ∙ sym (run c′ size′)
+      run c size ∙ words-same _ _ ss (plan-decides n plan words known h) tape (at c) (at c′) start s (omega (arith, steps-length (program n plan) ss (program-words n plan) (words-good n (A .most) plan words))) ∙ sym (run c′ size′)
     where
       run : (k : List ℕ) → length k ≡ 512 → stepWord n plan s tape k ≡ stepsOn (take (suc s) ss) tape (at k) (dest (getD ss s (Rand 0)))
       run k e =
-          program-word n plan A s l tape k
+          held-at (program n plan) ss (program-words n plan) (words-good n (A .most) plan words) s l tape k
           ∙ ap (λ (f : Cells). f (dest (getD ss s (Rand 0)))) (exec-on (take (suc s) ss) (all-take (λ s. T (inProgram s)) (suc s) ss (words-good n (A .most) plan words)) k tape e)
 
 pub known-decide : KnownDecide

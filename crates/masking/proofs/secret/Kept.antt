@@ -6,7 +6,7 @@ use mathlib.Core.Bool.{Bool}
 use mathlib.Core.List.{List, [], _∷_, map}
 use Prim.Native.Nat.{ℕ, _<_, _≤_}
 use native.Mathlib.Omega.{arith}
-use lib.Dec.{T, ltb, ltb→lt, lt→ltb}
+use lib.Dec.{T, ltb→lt, lt→ltb}
 use lib.ListN.{getD}
 use Rattle.word.specs.declared.step.Step.{Step}
 use Rattle.word.specs.Encoding.{inProgram}
@@ -18,7 +18,7 @@ use Rattle.masking.specs.Secrecy.{Agree, Tape, Pairing}
 use Rattle.masking.specs.Kept.{SharesKept}
 use Rattle.masking.proofs.emitted.Tests.{All}
 use Rattle.masking.proofs.emitted.Places.{Places, places, share-register}
-use Rattle.masking.proofs.emitted.Steps.{plan-words, planSteps, plan-good, program-steps}
+use Rattle.masking.proofs.emitted.Steps.{planSteps, plan-good, program-steps}
 use Rattle.masking.proofs.joined.Cells.{at}
 use Rattle.masking.proofs.secret.Acts.{acts}
 use Rattle.masking.proofs.secret.Sets.{has, has-head, has-only, count, count-has}
@@ -27,7 +27,7 @@ use Rattle.masking.proofs.secret.Reading.{reading}
 use Rattle.masking.proofs.secret.Gadgets.{Gadget, row, Ready, need, need-size, need-keeps, row-wp}
 use Rattle.masking.proofs.secret.Blocks.{gadget, row-blocks, blocks-ready}
 use Rattle.masking.proofs.secret.Hidden.{Ends, ends}
-use Rattle.masking.proofs.secret.Secret.{plan-reading, tape-length}
+use Rattle.masking.proofs.secret.Secret.{registers, plan-reads, tape-length}
 
 -- runs that start in agreement in share i of the registers R among w end so
 abbrev KeptIn : ℕ → ℕ → (ℕ → Bool) → List Step → ℕ → Type 0
@@ -59,10 +59,8 @@ module _ (n : ℕ) (plan : List ℕ) (A : Accepted n plan) (i : ℕ) where
   abbrev steps : List Step
   steps = blocks scratch n (planSteps plan)
 
-  kept : KeptIn n 40 (λ r. ltb r 32) steps i
-  kept =
-      blocks-kept n 40 scratch (places n (A .most)) (planSteps plan) (λ r. ltb r 32)
-      (plan-reading plan (plan-words plan (A .good)) (λ r. ltb r 32) (λ r l. lt→ltb r 32 l)) (plan-good n plan A) (A .least) i
+  kept : KeptIn n 40 registers steps i
+  kept = blocks-kept n 40 scratch (places n (A .most)) (planSteps plan) registers (plan-reads n plan A) (plan-good n plan A) (A .least) i
 
   -- a pairing of tapes of length L whose runs end in agreement
   abbrev Agreeing : List ℕ → List ℕ → ℕ → Type 0
@@ -72,7 +70,7 @@ module _ (n : ℕ) (plan : List ℕ) (A : Accepted n plan) (i : ℕ) where
   program-cell : (r : ℕ) → r < 32 → (tape l : List ℕ) → getD (exec (program n plan) tape l) (cell i r) 0 ≡ getD (execSteps steps tape l) (shareCell i r) 0
   program-cell r lr tape l = rw (program-steps n plan A, share-register i r lr)
 
-  agreed : (l l′ : List ℕ) → Agree i l l′ → Agreed n 40 (λ r. ltb r 32) (has (i ∷ [])) (at l) (at l′)
+  agreed : (l l′ : List ℕ) → Agree i l l′ → Agreed n 40 registers (has (i ∷ [])) (at l) (at l′)
   agreed l l′ g k r lk lr q x =
       let l32 : r < 32 = ltb→lt r 32 q in
       rw (has-only (i ∷ []) i (omega arith) (has-head [] i) k x, share-register i r l32) (g r l32)
