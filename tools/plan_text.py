@@ -45,8 +45,8 @@ def gate_kind(plan):
                 "SHOW_KIND": "eqb→eq _ 3 (G .1)", "SHOW_USE": "use lib.Dec.{eqb→eq}\n", "GATE_MOD": "",
                 "GATE_USE": f"{runs}use gates::gates::and_done;\n"}
     return {"GATE_DONE": "gate_done", "GATE_NAME": "gate-done", "GATE_KIND": "isGate", "KIND_USE": "use Rattle.gates.specs.inner.PlanWords.{isGate}\n",
-            "KIND_EQB": "", "SHOW_KIND": "G .1", "SHOW_USE": "", "GATE_MOD": "mod gates;\n",
-            "GATE_USE": f"use crate::gates::gate_done;\n{runs}"}
+            "KIND_EQB": "", "SHOW_KIND": "G .1", "SHOW_USE": "", "GATE_MOD": "mod and_or_add;\n",
+            "GATE_USE": f"use crate::and_or_add::gate_done;\n{runs}"}
 
 
 def listed(words):

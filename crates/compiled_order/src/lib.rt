@@ -7,12 +7,12 @@ ghost use Rattle.masking.specs.Machine.{stepsOf};
 ghost use Rattle.masking.specs.Translation.{program};
 ghost use Rattle.and_parts.specs.inner.Effects.{Enough, Ran};
 ghost use Rattle.compiled_order.specs.Plan.{orderPlan};
-use crate::gates::gate_done;
+use crate::and_or_add::gate_done;
 use crate::runs::gate;
 use crate::runs::run;
 
+mod and_or_add;
 pub mod calls;
-mod gates;
 pub mod in_place;
 mod runs;
 

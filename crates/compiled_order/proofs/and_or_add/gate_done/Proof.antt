@@ -1,9 +1,9 @@
 -- Written by tools/compile_plan.py: change the plan or the compiler, not this file.
--- `compiled_order::gates::gate_done` meets its contract.
+-- `compiled_order::and_or_add::gate_done` meets its contract.
 use borrow.Author.Needs.{needs}
 use Rattle.gates.proofs.ByField.{not-and}
-use Rattle.compiled_order.proofs.gates.gate_done.Statement.{statement}
-use Rattle.compiled_order.proofs.gates.gate_done.Tie as tie
+use Rattle.compiled_order.proofs.and_or_add.gate_done.Statement.{statement}
+use Rattle.compiled_order.proofs.and_or_add.gate_done.Tie as tie
 
 add-done-requires : tie.Need-add-done-requires
 add-done-requires c κs =
