@@ -3,7 +3,7 @@ ghost use mathlib.Core.Path.{_≡_};
 ghost use Rattle.fft_numbers.specs.Calls.{complexAnswer, layerAnswer};
 use checks::answer::Answer;
 use checks::share_count::is_share_count;
-use fft_plain::sizes::is_layer;
+use fft_sizes::is_layer;
 use word::step_word::StepWord;
 
 // Tape words as units of n(n-1): four products and two sums, and for a pair of a layer four products and six sums.

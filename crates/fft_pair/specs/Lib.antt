@@ -1,2 +1,1 @@
--- Names that inner contracts cite (Inner).
-pub mod inner
+-- Nothing of its own: what a pair gives stands in fft_numbers's specs.

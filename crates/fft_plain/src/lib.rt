@@ -6,12 +6,11 @@ ghost use Rattle.fft_numbers.specs.Calls.{plainCallAnswer, plainLayerAnswer, pl
 ghost use Rattle.fft_numbers.specs.Complex.{complexIm, complexRe};
 ghost use Rattle.fft_numbers.specs.Means.{LayerMeans};
 use crate::pairs::all_pairs;
-use crate::sizes::is_layer;
 use checks::answer::Answer;
 use fft_numbers::SIGN;
+use fft_sizes::is_layer;
 
 mod pairs;
-pub mod sizes;
 
 // A complex number: two words as binary64 numbers.
 #[repr(C)]

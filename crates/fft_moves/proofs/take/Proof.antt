@@ -1,4 +1,4 @@
--- `fft_pair::take` meets its contract.
+-- `fft_moves::take` meets its contract.
 use mathlib.Core.Path.{refl}
 use mathlib.Core.List.{[], _∷_}
 use Prim.Native.Nat.{_*_}
@@ -7,10 +7,10 @@ use denote.Ref.{now}
 use borrow.Author.Needs.{needs}
 use Rattle.fft_numbers.specs.Acts.{Put}
 use Rattle.fft_numbers.specs.Complex.{slotA, slotB}
-use Rattle.fft_pair.specs.inner.Inner.{numbersLoaded}
+use Rattle.fft_moves.specs.inner.Inner.{numbersLoaded}
 use Rattle.fft_slots.proofs.OneByOne.{done-then, held-done}
-use Rattle.fft_pair.proofs.take.Statement.{statement}
-use Rattle.fft_pair.proofs.take.Tie as tie
+use Rattle.fft_moves.proofs.take.Statement.{statement}
+use Rattle.fft_moves.proofs.take.Tie as tie
 
 returns : tie.Need-returns
 returns c =

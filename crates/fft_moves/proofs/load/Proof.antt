@@ -1,4 +1,4 @@
--- `fft_pair::load` meets its contract.
+-- `fft_moves::load` meets its contract.
 use mathlib.Core.List.{[], _∷_}
 use Prim.Native.Nat.{_+_, _*_}
 use native.Mathlib.Omega.{arith}
@@ -10,8 +10,8 @@ use Rattle.fft_numbers.specs.Layer.{slotURe, slotUIm}
 use Rattle.fft_numbers.proofs.Powers.{numbers-most}
 use Rattle.fft_slots.proofs.Holding.{row-inside}
 use Rattle.fft_slots.proofs.OneByOne.{done-then, loaded}
-use Rattle.fft_pair.proofs.load.Statement.{statement}
-use Rattle.fft_pair.proofs.load.Tie as tie
+use Rattle.fft_moves.proofs.load.Statement.{statement}
+use Rattle.fft_moves.proofs.load.Tie as tie
 
 copy-requires : tie.Need-copy-requires
 copy-requires c κs =

@@ -1,11 +1,11 @@
--- `fft_plain::sizes::is_layer` meets its contract.
+-- `fft_sizes::is_layer` meets its contract.
 use mathlib.Core.Path.{refl, sym, _∙_}
 use borrow.Author.Needs.{needs}
 use borrow.Author.Tests.{le-leb, lt-leb, not-true, not-false}
 use Rattle.fft_numbers.specs.Layer.{isLayer}
 use Rattle.fft_numbers.proofs.Powers.{stop, go-on}
-use Rattle.fft_plain.proofs.sizes.is_layer.Statement.{statement}
-use Rattle.fft_plain.proofs.sizes.is_layer.Tie as tie
+use Rattle.fft_sizes.proofs.is_layer.Statement.{statement}
+use Rattle.fft_sizes.proofs.is_layer.Tie as tie
 
 returns : tie.Need-returns
 unfolding isLayer

@@ -1,4 +1,4 @@
--- `fft_pair::put_back` meets its contract.
+-- `fft_moves::put_back` meets its contract.
 use mathlib.Core.Path.{_∙_}
 use mathlib.Core.List.{[], _∷_}
 use Prim.Native.Nat.{_+_, _*_}
@@ -10,8 +10,8 @@ use Rattle.fft_numbers.specs.Layer.{slotPlusRe, slotPlusIm, slotMinusRe, slotMi
 use Rattle.fft_numbers.proofs.Powers.{numbers-most}
 use Rattle.fft_slots.proofs.Holding.{row-inside}
 use Rattle.fft_slots.proofs.OneByOne.{done-then, stored}
-use Rattle.fft_pair.proofs.put_back.Statement.{statement}
-use Rattle.fft_pair.proofs.put_back.Tie as tie
+use Rattle.fft_moves.proofs.put_back.Statement.{statement}
+use Rattle.fft_moves.proofs.put_back.Tie as tie
 
 copy-requires : tie.Need-copy-requires
 copy-requires c κs =

@@ -1,4 +1,4 @@
--- `fft_plain::sizes::is_power_of_two` meets its contract: the loop keeps that k is none of the powers before 2^e.
+-- `fft_sizes::is_power_of_two` meets its contract: the loop keeps that k is none of the powers before 2^e.
 use mathlib.Core.Path.{_≡_, refl, sym, ap, _∙_}
 use Prim.Native.Nat.{ℕ, _-_, _*_, _^_, _≤_}
 use native.Mathlib.Nat.{pow-succ'}
@@ -8,8 +8,8 @@ use lib.Pow.{pow-mono}
 use borrow.Author.Tests.{eq-eqb, ne-eqb}
 use Rattle.fft_numbers.specs.Layer.{oneOf, isPowerOfTwo}
 use Rattle.fft_numbers.proofs.Powers.{powersFrom, powers-turn}
-use Rattle.fft_plain.proofs.sizes.is_power_of_two.Statement.{statement}
-use Rattle.fft_plain.proofs.sizes.is_power_of_two.Tie as tie
+use Rattle.fft_sizes.proofs.is_power_of_two.Statement.{statement}
+use Rattle.fft_sizes.proofs.is_power_of_two.Tie as tie
 
 abbrev Inv-loop : tie.InvT-loop
 Inv-loop k power₀ e₀ power e = (e ≤ 11) × (power ≡ 2 ^ e) × (isPowerOfTwo k ≡ oneOf k (powersFrom e))

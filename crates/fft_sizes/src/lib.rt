@@ -1,4 +1,4 @@
-// The sizes of a layer.
+// The sizes of a layer, on plain words and on shares.
 ghost use mathlib.Core.Path.{_≡_};
 ghost use Rattle.fft_numbers.specs.Layer.{isLayer, isPowerOfTwo};
 

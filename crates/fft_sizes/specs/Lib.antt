@@ -1,0 +1,1 @@
+-- Nothing of its own: the sizes stand in fft_numbers's specs.
