@@ -1,3 +1,3 @@
--- AND from its parts (Parts), and its operands' families and numbers (Families).
+-- AND from its parts (Parts), and in its halves, over the number of shares and the distance of an operand's shares (InHalves).
 pub mod Parts
-pub mod Families
+pub mod InHalves

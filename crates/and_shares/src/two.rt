@@ -1,8 +1,6 @@
 // d = a AND b for two shares, in locals: no share of y and z is ever in its cell.
-ghost use mathlib.Core.Path.{_≡_};
-ghost use lib.ListN.{length};
-ghost use Rattle.masking.specs.Translation.{andBlock, scratch};
-ghost use Rattle.and_parts.specs.inner.Effects.{Enough, Ran, Register, at, placed};
+ghost use Rattle.and_parts.specs.inner.Effects.{Ran};
+ghost use Rattle.and_many.specs.inner.Asked.{Asked, andOf};
 use and_parts::once::Place;
 use and_parts::scratch::T;
 use and_parts::scratch::U;
@@ -19,9 +17,8 @@ pub(crate) fn and_2(
     t: usize,
     cells: &mut [u64],
 ) -> usize
-    requires { ⌜ (length (now cells) ≡ 512) × Register d × Register (placed a over) × Register (placed b over) ⌝ }
-    requires { ⌜ Enough (now tape) t (andBlock scratch 2 (at d) (at (placed a over)) (at (placed b over))) ⌝ }
-    ensures { λ r. ⌜ Ran (andBlock scratch 2 (at d) (at (placed a over)) (at (placed b over))) (now (tape .entry)) t (now (cells .entry)) (now (cells .exit)) r ⌝ }
+    requires { ⌜ Asked 2 d a b over (now tape) t (now cells) ⌝ }
+    ensures { λ r. ⌜ Ran (andOf 2 d a b over) (now (tape .entry)) t (now (cells .entry)) (now (cells .exit)) r ⌝ }
 {
     // Not to be reordered (tests/leakage). The tape's word is stored, so that it is in a register before b's share 0 meets it there, and no share is loaded over
     // another. Between two stores to a cell a tape word is read, which may lie there for all that the compiler knows, so that it keeps the first: s and w stay

@@ -15,25 +15,25 @@ use Rattle.and_shares.proofs.two.and_2.Tie as tie
 
 -- the tape has two words left
 two-left : (s : tie.Start) → s .args .t + 2 ≤ length (now (s .args .tape))
-two-left s = two-words (at (s .args .d)) (at (placed (s .args .a) (s .args .over))) (at (placed (s .args .b) (s .args .over))) (now (s .args .tape)) (s .args .t) (s .pre .1)
+two-left s = two-words (at (s .args .d)) (at (placed (s .args .a) (s .args .over))) (at (placed (s .args .b) (s .args .over))) (now (s .args .tape)) (s .args .t) (s .pre .words)
 
 shared-slice-read-r : tie.Need-shared-slice-read-r
 shared-slice-read-r c = omega (arith, two-left (c .before .before .before))
 
 slice-read-y1 : tie.Need-slice-read-y1
-slice-read-y1 c = simp length-set (omega (arith, c .before .before .before .before .pre .0 .3 .inside))
+slice-read-y1 c = simp length-set (omega (arith, c .before .before .before .before .pre .right .inside))
 
 shared-slice-read-y1 : tie.Need-shared-slice-read-y1
 shared-slice-read-y1 c = omega (arith, two-left (c .before .before .before .before .before))
 
 slice-read-y0 : tie.Need-slice-read-y0
-slice-read-y0 c = simp length-set (omega (arith, c .before .before .before .before .before .before .pre .0 .3 .inside))
+slice-read-y0 c = simp length-set (omega (arith, c .before .before .before .before .before .before .pre .right .inside))
 
 slice-read-a1 : tie.Need-slice-read-a1
-slice-read-a1 c = simp length-set (omega (arith, c .before .before .before .before .before .before .before .pre .0 .2 .inside))
+slice-read-a1 c = simp length-set (omega (arith, c .before .before .before .before .before .before .before .pre .left .inside))
 
 slice-read-a0 : tie.Need-slice-read-a0
-slice-read-a0 c = simp length-set (omega (arith, c .before .before .before .before .before .before .before .before .pre .0 .2 .inside))
+slice-read-a0 c = simp length-set (omega (arith, c .before .before .before .before .before .before .before .before .pre .left .inside))
 
 shared-slice-read-s : tie.Need-shared-slice-read-s
 shared-slice-read-s c = omega (arith, two-left (c .before .before .before .before .before .before .before .before .before))
@@ -42,22 +42,22 @@ shared-slice-read-cells : tie.Need-shared-slice-read-cells
 shared-slice-read-cells c = omega (arith, two-left (c .before .before .before .before .before .before .before .before .before .before))
 
 slice-write-cells-5 : tie.Need-slice-write-cells-5
-slice-write-cells-5 c = simp length-set (omega (arith, c .before .before .before .before .before .before .before .before .before .before .before .pre .0 .1 .inside))
+slice-write-cells-5 c = simp length-set (omega (arith, c .before .before .before .before .before .before .before .before .before .before .before .pre .to .inside))
 
 shared-slice-read-cells-2 : tie.Need-shared-slice-read-cells-2
 shared-slice-read-cells-2 c = omega (arith, two-left (c .before .before .before .before .before .before .before .before .before .before .before .before))
 
 slice-write-cells-6 : tie.Need-slice-write-cells-6
-slice-write-cells-6 c = simp length-set (omega (arith, c .before .before .before .before .before .before .before .before .before .before .before .before .pre .0 .0))
+slice-write-cells-6 c = simp length-set (omega (arith, c .before .before .before .before .before .before .before .before .before .before .before .before .pre .size))
 
 shared-slice-read-cells-3 : tie.Need-shared-slice-read-cells-3
 shared-slice-read-cells-3 c = omega (arith, two-left (c .before .before .before .before .before .before .before .before .before .before .before .before .before))
 
 slice-write-cells-7 : tie.Need-slice-write-cells-7
-slice-write-cells-7 c = simp length-set (omega (arith, c .before .before .before .before .before .before .before .before .before .before .before .before .before .pre .0 .1 .inside))
+slice-write-cells-7 c = simp length-set (omega (arith, c .before .before .before .before .before .before .before .before .before .before .before .before .before .pre .to .inside))
 
 wipe-requires : tie.Need-wipe-requires
-wipe-requires c κs = (omega arith, simp length-set (c .before .before .before .before .before .before .before .before .before .before .before .before .before .before .pre .0 .0))
+wipe-requires c κs = (omega arith, simp length-set (c .before .before .before .before .before .before .before .before .before .before .before .before .before .before .pre .size))
 
 returns : tie.Need-returns
 unfolding xorW andW
@@ -71,7 +71,7 @@ returns c =
     let second-b : g .b + g .over ≡ at B 1 = omega (arith, one) in
     let first : g .d .base ≡ at (g .d) 0 = at-first (g .d) in
     let next : g .d .base + g .d .stride ≡ at (g .d) 1 = omega (arith, native.Mathlib.Nat.one-mul (g .d .stride)) in
-    two-done A B (g .d) (s .pre .0 .2) (s .pre .0 .3) (s .pre .0 .1) (now (g .tape)) (now (g .cells)) (g .t) (s .pre .0 .0)
+    two-done A B (g .d) (s .pre .left) (s .pre .right) (s .pre .to) (now (g .tape)) (now (g .cells)) (g .t) (s .pre .size)
     (λ k. omega (arith, c .before .before .before .before .before .before .before .before .before .before .before .before .before .before .before .slice-known .given k)) (λ k. omega (arith, c .before .before .before .before .before .before .before .before .before .before .before .before .before .before .before .before .shared-slice-known .given k))
     _ _ _ _ _ _ (at-first B) second-b (at-first A) second-a first next _ (c .before .before .wipe .ensures)
 
