@@ -9,7 +9,7 @@ use Rattle.bits.specs.Ops.{xorW, andW}
 use Rattle.and_parts.specs.inner.Effects.{at, placed}
 use Rattle.and_parts.proofs.Turn.{at-first}
 use Rattle.and_many.proofs.Parts.{two-words, ran-size}
-use Rattle.and_shares.proofs.OnTwo.{two-done}
+use Rattle.and_many.proofs.OnTwo.{two-done}
 use Rattle.and_shares.proofs.two.and_2.Statement.{statement}
 use Rattle.and_shares.proofs.two.and_2.Tie as tie
 

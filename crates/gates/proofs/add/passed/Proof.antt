@@ -1,4 +1,4 @@
--- `gates::add::passed` meets its contract. Rests on InTurn for `merged`, and on and_parts' Running for steps done in parts.
+-- `gates::add::passed` meets its contract. Rests on add_turn's InTurn for `merged`, and on and_parts' Running for steps done in parts.
 use mathlib.Core.Path.{_∙_}
 use mathlib.Core.List.{[], _∷_}
 use native.Mathlib.Omega.{arith}
@@ -8,7 +8,7 @@ use Rattle.masking.specs.Translation.{scratch, block, rG, rP, rT}
 use Rattle.and_parts.proofs.Running.{start, part, enough, whole, blocks-part}
 use Rattle.word.specs.declared.step.Step.the-variants.{Xor, And, Shl}
 use Rattle.gates.proofs.Named.{helper-named, helper-placed, and-ran, and-asked}
-use Rattle.gates.proofs.InTurn.{ran}
+use Rattle.add_turn.proofs.InTurn.{ran}
 use Rattle.gates.proofs.add.passed.Statement.{statement}
 use Rattle.gates.proofs.add.passed.Tie as tie
 

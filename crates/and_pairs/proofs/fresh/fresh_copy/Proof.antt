@@ -1,14 +1,14 @@
--- `and_parts::fresh::fresh_copy` meets its contract: the shares one after the other.
+-- `and_pairs::fresh::fresh_copy` meets its contract: the shares one after the other.
 use mathlib.Core.Path.{_≡_, sym, ap, _∙_}
 use Prim.Native.Nat.{_-_, _≤_}
 use native.Mathlib.Omega.{arith}
 use denote.Ref.{now}
 use lib.ListN.{length, length-set}
 use Rattle.masking.specs.Translation.{shares, upFrom}
 use Rattle.and_parts.specs.inner.Effects.{at, freshly, placed}
-use Rattle.and_parts.proofs.Refreshed.{fresh-near, fresh-words, half, fresh-begin, fresh-turn, fresh-end}
-use Rattle.and_parts.proofs.fresh.fresh_copy.Statement.{statement}
-use Rattle.and_parts.proofs.fresh.fresh_copy.Tie as tie
+use Rattle.and_pairs.proofs.Refreshed.{fresh-near, fresh-words, half, fresh-begin, fresh-turn, fresh-end}
+use Rattle.and_pairs.proofs.fresh.fresh_copy.Statement.{statement}
+use Rattle.and_pairs.proofs.fresh.fresh_copy.Tie as tie
 
 abbrev Inv-loop : tie.InvT-loop
 Inv-loop b over n tape t cells₀ k₀ cells k =

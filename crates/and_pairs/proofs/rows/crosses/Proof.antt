@@ -1,15 +1,15 @@
--- `and_parts::rows::crosses` meets its contract: rows one after the other.
+-- `and_pairs::rows::crosses` meets its contract: rows one after the other.
 use mathlib.Core.Path.{_≡_, sym, ap, _∙_}
 use Prim.Native.Nat.{_+_, _-_, _≤_}
 use native.Mathlib.Omega.{arith}
 use lib.ListN.{length}
 use Rattle.masking.specs.Translation.{pairs, products, scratch, shares}
 use Rattle.masking.specs.Machine.{randsOf}
 use Rattle.and_parts.specs.inner.Effects.{at, placed}
 use Rattle.and_parts.proofs.Toward.{Toward, begin, renamed, whole, near-size}
-use Rattle.and_parts.proofs.RowByRow.{rowsFrom, all-rows, no-rows, row-words, next-row}
-use Rattle.and_parts.proofs.rows.crosses.Statement.{statement}
-use Rattle.and_parts.proofs.rows.crosses.Tie as tie
+use Rattle.and_pairs.proofs.RowByRow.{rowsFrom, all-rows, no-rows, row-words, next-row}
+use Rattle.and_pairs.proofs.rows.crosses.Statement.{statement}
+use Rattle.and_pairs.proofs.rows.crosses.Tie as tie
 
 abbrev Inv-loop : tie.InvT-loop
 Inv-loop a over n tape t₀ cells₀ t₁ i₀ cells t i =

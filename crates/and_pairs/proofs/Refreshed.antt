@@ -15,11 +15,11 @@ use Rattle.masking.specs.Translation.{Pair, pairs, refresh, scratch, shares, up
 use Rattle.masking.specs.Machine.{execStep, execSteps, randsOf}
 use Rattle.masking.proofs.emitted.Counts.{by-count}
 use Rattle.masking.proofs.emitted.Rising.{from-first, rising, risen}
 use Rattle.and_parts.specs.declared.once.Place.{Place}
 use Rattle.and_parts.specs.inner.Effects.{Alike, Nearly, Register, at, behind, behindRow, copyIn, freshly, refreshedY, rowWords}
 use Rattle.and_parts.proofs.Toward.{joined, still-near}
-use Rattle.and_parts.proofs.ShareTurns.{copy-alike}
-use Rattle.and_parts.proofs.RowTurns.{refresh-near}
+use Rattle.and_pairs.proofs.ShareTurns.{copy-alike}
+use Rattle.and_pairs.proofs.RowTurns.{refresh-near}
 
 -- ---- cells with words in y from share s on
 abbrev put : ℕ → List ℕ → List ℕ → List ℕ

@@ -7,9 +7,9 @@ use Rattle.masking.specs.Translation.{pairs, pairsOf, products, scratch, shares
 use Rattle.masking.specs.Machine.{randsOf}
 use Rattle.masking.proofs.emitted.Counts.{rands-append}
 use Rattle.masking.proofs.emitted.Rising.{from-first, risen}
 use Rattle.and_parts.specs.inner.Effects.{Nearly}
-use Rattle.and_parts.proofs.OnPairs.{in-rows}
+use Rattle.and_pairs.proofs.OnPairs.{in-rows}
 use Rattle.and_parts.proofs.Toward.{Toward, renamed, part}
 
 module _ (a : ℕ → ℕ) (n : ℕ) where
   abbrev pub row : ℕ → List Step

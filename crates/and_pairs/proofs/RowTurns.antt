@@ -12,11 +12,11 @@ use Rattle.word.specs.declared.step.Step.{Step}
 use Rattle.masking.specs.Translation.{pairsOf, products, refresh, scratch, upFrom}
 use Rattle.masking.specs.Machine.{randsOf}
 use Rattle.masking.proofs.emitted.Rising.{length-from}
 use Rattle.and_parts.specs.declared.once.Place.{Place}
 use Rattle.and_parts.specs.inner.Effects.{Alike, Nearly, Register, at, crossedPair, crossedZ, refreshed, refreshedY}
 use Rattle.and_parts.proofs.Likeness.{Other, itself, turned, alike-as, same-get, same-set, same-size, same-t, same-u}
 use Rattle.and_parts.proofs.Toward.{Toward, renamed, part, aside}
-use Rattle.and_parts.proofs.OnPairs.{pair, in-row, refresh-pair, cross-pair}
+use Rattle.and_pairs.proofs.OnPairs.{pair, in-row, refresh-pair, cross-pair}
 
 -- ---- the tape words of a row
 module _ (i : ℕ) where

@@ -1,4 +1,4 @@
--- `and_parts::rows::cross_row` meets its contract: z_i, in a local, stands in its cell again at the end.
+-- `and_pairs::rows::cross_row` meets its contract: z_i, in a local, stands in its cell again at the end.
 use mathlib.Core.Path.{_≡_, refl, sym, ap, _∙_, subst}
 use mathlib.Core.List.{List}
 use Prim.Native.Nat.{ℕ, _+_, _-_, _≤_, _<_}
@@ -8,13 +8,13 @@ use lib.ListN.{length, set, length-set}
 use lib.Seq.{set-getD}
 use Rattle.bits.specs.Ops.{xorW, andW}
 use Rattle.masking.specs.Translation.{upFrom, pairsOf, products, scratch}
 use Rattle.and_parts.specs.inner.Effects.{at, placed}
 use Rattle.and_parts.proofs.Turn.{at-next, at-inside, at-fits}
 use Rattle.and_parts.proofs.Toward.{Toward, begin, renamed, whole}
-use Rattle.and_parts.proofs.OnPairs.{row-end}
-use Rattle.and_parts.proofs.RowTurns.{products-row-words, cross-turn}
-use Rattle.and_parts.proofs.rows.cross_row.Statement.{statement}
-use Rattle.and_parts.proofs.rows.cross_row.Tie as tie
+use Rattle.and_pairs.proofs.OnPairs.{row-end}
+use Rattle.and_pairs.proofs.RowTurns.{products-row-words, cross-turn}
+use Rattle.and_pairs.proofs.rows.cross_row.Statement.{statement}
+use Rattle.and_pairs.proofs.rows.cross_row.Tie as tie
 
 abbrev Inv-loop : tie.InvT-loop
 Inv-loop a over i n tape t cells₀ t₀ p q₀ j₀ z₀ cells t' q j z =

@@ -1,5 +1,5 @@
 -- AND on two shares in locals: its stores to d and the wiping leave the cells as its share steps do. The parts are taken one by one on cells with y and z stored,
--- which the wiping forgets. Rests on Stores, on and_many's Parts, and on and_parts' ShareTurns and RowTurns.
+-- which the wiping forgets. Rests on Stores and Parts, and on and_pairs' ShareTurns and RowTurns.
 use mathlib.Core.Path.{_≡_, refl, sym, ap, ap₂, _∙_, subst}
 use mathlib.Core.List.{List}
 use mathlib.Core.Logic.{_≢_}
@@ -15,11 +15,11 @@ use Rattle.masking.specs.Machine.{execStep}
 use Rattle.and_parts.specs.declared.once.Place.{Place}
 use Rattle.and_parts.specs.inner.Effects.{Alike, Nearly, NearlyStill, Ran, Register, Still, at, copyIn, copyOut, diagonal}
 use Rattle.and_parts.proofs.Likeness.{Other}
-use Rattle.and_parts.proofs.ShareTurns.{copy-alike, and-alike}
-use Rattle.and_parts.proofs.RowTurns.{refresh-near, cross-near}
+use Rattle.and_pairs.proofs.ShareTurns.{copy-alike, and-alike}
+use Rattle.and_pairs.proofs.RowTurns.{refresh-near, cross-near}
 use Rattle.and_parts.proofs.Zeros.{zeroed, wiping-zeroed}
 use Rattle.and_many.proofs.Parts.{and-done}
-use Rattle.and_shares.proofs.Stores.{Stores, none, put, stored, Away, Scratch, Among, stored-size, read, read-other, forgets, stays}
+use Rattle.and_many.proofs.Stores.{Stores, none, put, stored, Away, Scratch, Among, stored-size, read, read-other, forgets, stays}
 
 -- ---- a step whose operands' values are known
 module _ (c : List ℕ) (d x : ℕ) (od : Other d) (ox : Other x) (v : ℕ) (ev : getD c x 0 ≡ v) where

@@ -1,13 +1,13 @@
--- `gates::add::merged` meets its contract. Rests on InTurn for what is left after a share.
+-- `add_turn::merged` meets its contract. Rests on InTurn for what is left after a share.
 use mathlib.Core.Path.{_≡_, sym, _∙_}
 use Prim.Native.Nat.{_+_, _*_, _≤_}
 use native.Mathlib.Omega.{arith}
 use denote.Ref.{now}
 use lib.ListN.{length, length-set}
 use Rattle.bits.specs.Ops.{xorW, shlW}
-use Rattle.gates.proofs.InTurn.{Rest, begin, turn, end}
-use Rattle.gates.proofs.add.merged.Statement.{statement}
-use Rattle.gates.proofs.add.merged.Tie as tie
+use Rattle.add_turn.proofs.InTurn.{Rest, begin, turn, end}
+use Rattle.add_turn.proofs.merged.Statement.{statement}
+use Rattle.add_turn.proofs.merged.Tie as tie
 
 abbrev Inv-loop : tie.InvT-loop
 Inv-loop k n cells₀ q₀ i₀ cells q i = (i ≤ n) × (length cells ≡ 512) × (q ≡ 288 + 8 * i) × Rest k n i cells₀ cells

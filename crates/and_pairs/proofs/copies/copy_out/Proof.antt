@@ -1,4 +1,4 @@
--- `and_parts::copies::copy_out` meets its contract.
+-- `and_pairs::copies::copy_out` meets its contract.
 use mathlib.Core.Path.{_≡_, refl, sym, ap, _∙_, subst}
 use mathlib.Core.List.{List}
 use Prim.Native.Nat.{ℕ, _+_, _-_, _≤_}
@@ -8,12 +8,12 @@ use lib.ListN.{length, getD, set, length-set}
 use Rattle.word.specs.declared.step.Step.{Step}
 use Rattle.word.specs.declared.step.Step.the-variants.{Shl}
 use Rattle.masking.specs.Machine.{execStep}
 use Rattle.and_parts.specs.declared.once.Place.{Place}
 use Rattle.and_parts.specs.inner.Effects.{Alike, at}
 use Rattle.and_parts.proofs.Turn.{at-first, at-next, at-inside, at-fits}
-use Rattle.and_parts.proofs.ShareTurns.{Rest, rest-start, rest-turn, rest-end, copy-alike}
-use Rattle.and_parts.proofs.copies.copy_out.Statement.{statement}
-use Rattle.and_parts.proofs.copies.copy_out.Tie as tie
+use Rattle.and_pairs.proofs.ShareTurns.{Rest, rest-start, rest-turn, rest-end, copy-alike}
+use Rattle.and_pairs.proofs.copies.copy_out.Statement.{statement}
+use Rattle.and_pairs.proofs.copies.copy_out.Tie as tie
 
 -- the step of a share
 abbrev each : Place → ℕ → Step

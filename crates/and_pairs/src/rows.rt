@@ -3,10 +3,10 @@ ghost use mathlib.Core.Path.{_≡_};
 ghost use Prim.Native.Nat.{_+_, _-_, _≤_, _<_};
 ghost use lib.ListN.{length};
 ghost use Rattle.masking.specs.Translation.{pairs, pairsOf, products, scratch, shares, upFrom};
 ghost use Rattle.and_parts.specs.inner.Effects.{Enough, Nearly, Register, at, placed};
-use crate::scratch::T;
-use crate::scratch::Y;
-use crate::scratch::Z;
+use and_parts::scratch::T;
+use and_parts::scratch::Y;
+use and_parts::scratch::Z;
 
 // The cross products of a and y for each j above i into z_i and z_j, behind a fresh word.
 fn cross_row(

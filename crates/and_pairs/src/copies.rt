@@ -3,10 +3,10 @@
 ghost use mathlib.Core.Path.{_≡_};
 ghost use Prim.Native.Nat.{_≤_};
 ghost use lib.ListN.{length};
 ghost use Rattle.and_parts.specs.inner.Effects.{NearlyStill, Register, at, copyOut, diagonal, placed};
-use crate::once::Place;
-use crate::scratch::Y;
-use crate::scratch::Z;
+use and_parts::once::Place;
+use and_parts::scratch::Y;
+use and_parts::scratch::Z;
 
 // z_i = a_i AND y_i.
 pub fn diagonal(a: usize, over: usize, n: usize, cells: &mut [u64])
