@@ -1,9 +1,9 @@
 // d = a AND b on shares, by their number: for registers of plans and for ADD's helper registers.
 ghost use Rattle.and_parts.specs.inner.Effects.{Ran};
 ghost use Rattle.and_many.specs.inner.Asked.{Asked, andOf};
-use crate::two::and_2;
 use and_many::counts::and_3_to_8;
 use and_parts::once::Place;
+use and_two::and_2;
 
 // For registers a and b of a plan, from place t of the tape on; the answer is the next place. The scratch cells are zero afterwards.
 pub fn and_of_registers(

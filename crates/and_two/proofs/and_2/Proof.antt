@@ -1,4 +1,4 @@
--- `and_shares::two::and_2` meets its contract: what it stores is what OnTwo says of.
+-- `and_two::and_2` meets its contract: what it stores is what and_many's OnTwo says of.
 use mathlib.Core.Path.{_≡_}
 use Prim.Native.Nat.{_+_, _≤_}
 use native.Mathlib.Omega.{arith}
@@ -10,8 +10,8 @@ use Rattle.and_parts.specs.inner.Effects.{at, placed}
 use Rattle.and_parts.proofs.Turn.{at-first}
 use Rattle.and_many.proofs.Parts.{two-words, ran-size}
 use Rattle.and_many.proofs.OnTwo.{two-done}
-use Rattle.and_shares.proofs.two.and_2.Statement.{statement}
-use Rattle.and_shares.proofs.two.and_2.Tie as tie
+use Rattle.and_two.proofs.and_2.Statement.{statement}
+use Rattle.and_two.proofs.and_2.Tie as tie
 
 -- the tape has two words left
 two-left : (s : tie.Start) → s .args .t + 2 ≤ length (now (s .args .tape))

@@ -8,7 +8,7 @@ use and_parts::scratch::Y;
 use and_parts::wipe::wipe;
 
 // Share 1 of a and b lies `over` cells behind share 0: a constant to each caller.
-pub(crate) fn and_2(
+pub fn and_2(
     d: Place,
     a: usize,
     b: usize,
