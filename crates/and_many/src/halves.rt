@@ -6,11 +6,11 @@ ghost use Prim.Native.Nat.{_≤_};
 ghost use lib.ListN.{length};
 ghost use Rattle.masking.specs.Translation.{pairs, products, refresh, scratch, shares};
 ghost use Rattle.and_parts.specs.inner.Effects.{Enough, Nearly, Register, Wholly, at, firstHalf, placed, secondHalf};
-use and_parts::copies::copy_out;
-use and_parts::copies::diagonal;
-use and_parts::fresh::fresh_copy;
+use and_pairs::copies::copy_out;
+use and_pairs::copies::diagonal;
+use and_pairs::fresh::fresh_copy;
+use and_pairs::rows::crosses;
 use and_parts::once::Place;
-use and_parts::rows::crosses;
 use and_parts::wipe::wipe;
 
 pub(crate) fn first_half(

@@ -1,16 +1,22 @@
-// The first half of AND: b's shares in y, each behind the fresh words of its pairs. Share by share and not pair by pair, so that a share stays in a
+// One share of AND's y: b's share behind the fresh words of its pairs. Share by share and not pair by pair, so that a share stays in a
 // register; called with constants for n and over, the loops are straight code.
 ghost use mathlib.Core.Path.{_≡_};
-ghost use mathlib.Core.List.{_++_};
 ghost use Prim.Native.Nat.{_+_, _-_, _≤_, _<_};
 ghost use lib.ListN.{getD, length, set};
-ghost use Rattle.masking.specs.Translation.{pairs, refresh, scratch, shares};
-ghost use Rattle.and_parts.specs.inner.Effects.{Enough, Nearly, Register, at, behind, copyIn, placed, rowWords};
+ghost use Rattle.and_parts.specs.inner.Effects.{Register, at, behind, placed, rowWords};
 use crate::scratch::Y;
 
 // y_k. A pair's word lies in the row of its lower share, and the rows one after the other from place t of the tape on, each shorter by one: share k has
 // a word of each row before its own, and its own row.
-fn fresh_share(k: usize, b: usize, over: usize, n: usize, tape: &[u64], t: usize, cells: &mut [u64])
+pub fn fresh_share(
+    k: usize,
+    b: usize,
+    over: usize,
+    n: usize,
+    tape: &[u64],
+    t: usize,
+    cells: &mut [u64],
+)
     requires { ⌜ (k < n) × (n ≤ 8) × (length (now cells) ≡ 512) × Register (placed b over) × (t + rowWords (n - 1) ≤ length (now tape)) ⌝ }
     ensures { λ _. ⌜ now (cells .exit) ≡ set (now (cells .entry)) (256 + k) (behind (now (tape .entry)) k (n - 1) t (getD (now (cells .entry)) (at (placed b over) k) 0)) ⌝ }
 {
@@ -30,25 +36,4 @@ fn fresh_share(k: usize, b: usize, over: usize, n: usize, tape: &[u64], t: usize
         row -= 1;
     }
     cells[Y + k] = y;
-}
-
-// The copy of b into y and its refresh, from place t of the tape on; the answer is the next place.
-pub fn fresh_copy(
-    b: usize,
-    over: usize,
-    n: usize,
-    tape: &[u64],
-    t: usize,
-    cells: &mut [u64],
-) -> usize
-    requires { ⌜ (2 ≤ n) × (n ≤ 8) × (length (now cells) ≡ 512) × Register (placed b over) ⌝ }
-    requires { ⌜ Enough (now tape) t (refresh scratch (pairs (shares n))) ⌝ }
-    ensures { λ r. ⌜ Nearly (copyIn n (at (placed b over)) ++ refresh scratch (pairs (shares n))) (now (tape .entry)) t (now (cells .entry)) (now (cells .exit)) r ⌝ }
-{
-    let mut k = 0;
-    while k < n {
-        fresh_share(k, b, over, n, tape, t, cells);
-        k += 1;
-    }
-    t + n * (n - 1) / 2
 }

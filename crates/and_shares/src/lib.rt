@@ -1,3 +1,2 @@
-// AND on shares: two shares in locals, and by the number of shares, for the registers of plans and for ADD's helper registers.
+// AND on shares by their number, for the registers of plans and for ADD's helper registers.
 pub mod and;
-mod two;

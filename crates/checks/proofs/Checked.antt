@@ -3,12 +3,12 @@
 use mathlib.Core.Path.{_≡_, refl, sym, ap, _∙_}
 use mathlib.Core.Bool.{Bool, true, false}
 use mathlib.Core.List.{List}
-use Prim.Native.Nat.{ℕ, _≤_}
+use Prim.Native.Nat.{ℕ, _≤_, _<_}
 use native.Mathlib.Nat.{le-antisymm}
 use native.Mathlib.Omega.{arith}
 use lib.Dec.{ltb}
 use lib.ListN.{length}
-use borrow.Author.Tests.{ltb-false, le-ltb}
+use borrow.Author.Tests.{ltb-false, lt-ltb, le-ltb}
 use Rattle.word.specs.declared.step.Decoded.{Decoded}
 use Rattle.word.specs.Encoding.{planStep, programStep}
 use Rattle.word.specs.Layout.{planMax, programMax}
@@ -55,6 +55,16 @@ module _ (most : ℕ) (step : ℕ → Decoded) (words : List ℕ) where
       by false true = (omega arith, omega arith)
       by false false = (omega arith, omega arith)
 
+  -- the answer of a function that checks, by the place i where its search ended
+  too-long : {a : Answer} (next : Answer) → most < length words → a ≡ refused 2 → a ≡ checked most step words next
+  too-long next l e = rw (lt-ltb most (length words) l) e
+
+  bad-found : {i : ℕ} {a : Answer} (next : Answer) → length words ≤ most → i ≡ firstBad step words → i < length words → a ≡ badAt i → a ≡ checked most step words next
+  bad-found next s f l e = rw (le-ltb most (length words) s, lt-ltb (firstBad step words) (length words) (rw f at l)) (rw f at e)
+
+  none-found : {i : ℕ} {a : Answer} (next : Answer) → length words ≤ most → i ≡ firstBad step words → length words ≤ i → a ≡ next → a ≡ checked most step words next
+  none-found next s f l e = rw (le-ltb most (length words) s, le-ltb (firstBad step words) (length words) (rw f at l)) e
+
 -- the two checks: what holds of one given by name
 pub record Check (most : ℕ) (step : ℕ → Decoded) (check : List ℕ → Answer → Answer) : Type 0 where
   -- an answer that is done: the check passes, and what comes next is done
@@ -65,14 +75,31 @@ pub record Check (most : ℕ) (step : ℕ → Decoded) (check : List ℕ → Ans
   pub down : (words : List ℕ) (x y : Answer) → x .number ≡ 0 → (check words x .number ≡ 0 → ⊥) → check words x ≡ check words y
   -- it counts nothing of its own
   pub counts : (words : List ℕ) (x : Answer) → (check words x .words ≤ x .words) × (check words x .tape ≤ x .tape)
+  -- what a function answers that asks for the length, and then for the place i of the first bad word
+  pub long : (words : List ℕ) {a : Answer} (x : Answer) → most < length words → a ≡ refused 2 → a ≡ check words x
+  pub bad : (words : List ℕ) {i : ℕ} {a : Answer} (x : Answer) → length words ≤ most → i ≡ firstBad step words → i < length words → a ≡ badAt i → a ≡ check words x
+  pub none : (words : List ℕ) {i : ℕ} {a : Answer} (x : Answer) → length words ≤ most → i ≡ firstBad step words → length words ≤ i → a ≡ x → a ≡ check words x
+
+-- it by any name
+all-of : (most : ℕ) (step : ℕ → Decoded) → Check most step (checked most step)
+all-of most step =
+    record {
+      passes = done-passes most step;
+      next = passes-next most step;
+      down = down-next most step;
+      counts = no-counts most step;
+      long = too-long most step;
+      bad = bad-found most step;
+      none = none-found most step;
+    }
 
 pub plan-check : Check planMax planStep planChecked
 unfolding planChecked
-plan-check = record { passes = done-passes planMax planStep; next = passes-next planMax planStep; down = down-next planMax planStep; counts = no-counts planMax planStep }
+plan-check = all-of planMax planStep
 
 pub program-check : Check programMax programStep programChecked
 unfolding programChecked
-program-check = record { passes = done-passes programMax programStep; next = passes-next programMax programStep; down = down-next programMax programStep; counts = no-counts programMax programStep }
+program-check = all-of programMax programStep
 
 -- a function's answer to a check that comes before others, where nothing is counted yet
 module _ (most : ℕ) (step : ℕ → Decoded) (check : List ℕ → Answer → Answer) (C : Check most step check) (words : List ℕ) (a : Answer) (e : a ≡ check words (done 0 0)) where

@@ -1,7 +1,7 @@
 -- The blocks of a translation by the places of their registers (Named), and plan words by kind (Words), AND and ADD over registers
--- that are their fields (ByField), ADD's rounds by their shifts (Rounds), and two of its steps share by share (InTurn).
+-- that are their fields (ByField), ADD's blocks in order (Adding), and its rounds by their shifts (Rounds).
 pub mod Named
 pub mod Words
 pub mod ByField
+pub mod Adding
 pub mod Rounds
-pub mod InTurn

@@ -1,8 +1,9 @@
 -- The blocks of a translation by the places of their registers. Rests on masking's Places.
 use mathlib.Core.Path.{_≡_, refl, sym, ap, _∙_, subst}
 use mathlib.Core.List.{List, map}
-use Prim.Native.Nat.{ℕ, _+_, _-_, _*_, _<_}
+use Prim.Native.Nat.{ℕ, _+_, _-_, _*_, _≤_, _<_}
 use native.Mathlib.Omega.{arith}
+use lib.ListN.{length}
 use Rattle.word.specs.declared.step.Step.{Step}
 use Rattle.word.specs.declared.step.Step.the-variants.{And}
 use Rattle.masking.specs.Translation.{shares, shareCell, cellsOf, scratch, block, andBlock}
@@ -10,6 +11,7 @@ use Rattle.masking.proofs.emitted.Places.{share-register, share-helper}
 use Rattle.and_parts.specs.declared.once.Place.{Place}
 use Rattle.and_parts.specs.declared.once.Op.{Op}
 use Rattle.and_parts.specs.inner.Effects.{Enough, Ran, Register, Still, at, onceStep, placed}
+use Rattle.and_many.specs.inner.Asked.{Asked}
 use Rattle.gates.specs.inner.PlanWords.{IsHelper, OfPlan}
 use Rattle.and_parts.proofs.Running.{still-ran}
 use Rattle.and_parts.proofs.Turn.{once-rands}
@@ -84,5 +86,8 @@ module _ (n : ℕ) {pd pa pb : Place} {d a b : ℕ} (ed : Named pd d) (ea : Name
   pub and-ran : {c c' tape : List ℕ} {t t' : ℕ} → Ran (andBlock scratch n (at pd) (at pa) (at pb)) tape t c c' t' → Ran (block scratch n (And d a b)) tape t c c' t'
   and-ran {c} {c'} {tape} {t} {t'} = subst (λ (ss : List Step). Ran ss tape t c c' t') and-block
 
-  pub and-enough : (tape : List ℕ) (t : ℕ) → Enough tape t (block scratch n (And d a b)) → Enough tape t (andBlock scratch n (at pd) (at pa) (at pb))
-  and-enough tape t = subst (Enough tape t) (sym and-block)
+-- what AND asks, of operands by their share 0
+pub and-asked : {n : ℕ} {pd : Place} {x y over d a b : ℕ} {tape cells : List ℕ} {t : ℕ} → Named pd d → Named (placed x over) a → Named (placed y over) b
+    → 2 ≤ n → n ≤ 8 → length cells ≡ 512 → Enough tape t (block scratch n (And d a b)) → Asked n pd x y over tape t cells
+and-asked {n} {tape = tape} {t = t} ed ea eb l m e w =
+    record { least = l; most = m; size = e; to = ed .register; left = ea .register; right = eb .register; words = subst (Enough tape t) (sym (and-block n ed ea eb)) w }

@@ -7,7 +7,8 @@ ghost use Rattle.masking.specs.Translation as translation;
 ghost use Rattle.gates.specs.inner.PlanWords.{IsHelper, OfPlan};
 ghost use Rattle.masking.specs.Translation.{blocks, rG, rP, rT, scratch};
 ghost use Rattle.word.specs.declared.step.Step.the-variants.{And, Shl, Xor};
-ghost use Rattle.and_parts.specs.inner.Effects.{Enough, Ran, Still};
+ghost use Rattle.and_parts.specs.inner.Effects.{Enough, Ran};
+use add_turn::merged;
 use and_parts::once::Op;
 use and_parts::once::Place;
 use and_parts::once::each;
@@ -42,22 +43,6 @@ fn begun(k: u32, a: Place, b: Place, n: usize, tape: &[u64], t: usize, cells: &m
     };
     each(Op::Shl(k), s, g, g, n, cells);
     and_of_helpers(s, a.base, b.base, n, tape, t, cells)
-}
-
-// G = G XOR T; T = P SHL k, both for one share and then for another: share i's helpers are the cells from q on. The last share goes first, because the
-// AND before may leave P's last share in a register, and share 0 is not to be loaded over it. tests/leakage has no call with an ADD.
-fn merged(k: u32, n: usize, cells: &mut [u64])
-    requires { ⌜ (k < 64) × (n ≤ 8) × (length (now cells) ≡ 512) ⌝ }
-    ensures { λ _. ⌜ Still (blocks scratch n (Xor rG rG rT ∷ Shl rT rP k ∷ [])) (now (cells .entry)) (now (cells .exit)) ⌝ }
-{
-    let mut q = H + n * STRIDE;
-    let mut i = n;
-    while i > 0 {
-        q -= STRIDE;
-        i -= 1;
-        cells[q + 1] = cells[q + 1] ^ cells[q + 3];
-        cells[q + 3] = cells[q + 2] << k;
-    }
 }
 
 // G = G XOR T; T = P SHL k; P = P AND T, with a and b as above.

@@ -1,7 +1,6 @@
 -- `gates::add::begun` meets its contract. Rests on and_parts' Running for steps done in parts.
 use mathlib.Core.Path.{_∙_}
 use mathlib.Core.List.{[], _++_}
-use Prim.Native.Nat.{_≤_, _<_}
 use native.Mathlib.Omega.{arith}
 use denote.Ref.{now}
 use borrow.Author.Needs.{needs}
@@ -9,7 +8,7 @@ use Rattle.masking.specs.Translation.{scratch, block, rG, rP, rT}
 use Rattle.and_parts.proofs.Running.{start, part, enough, whole}
 use Rattle.and_parts.specs.declared.once.Op.the-variants as op
 use Rattle.word.specs.declared.step.Step.the-variants.{And, Shl}
-use Rattle.gates.proofs.Named.{helper-named, helper-placed, once-ran, and-ran, and-enough}
+use Rattle.gates.proofs.Named.{helper-named, helper-placed, once-ran, and-ran, and-asked}
 use Rattle.gates.proofs.add.begun.Statement.{statement}
 use Rattle.gates.proofs.add.begun.Tie as tie
 
@@ -27,8 +26,7 @@ and-of-helpers-requires c κs =
     let l₁ = part u₁ (u₂ ++ []) (start tape (u₁ ++ (u₂ ++ [])) (g .t) (now (g .cells))) (once-ran (op.Shl k) n T G G tape (g .t) (c .before .before .before .each .ensures)) in
     let A = helper-placed (g .a) 2 (s .pre .0 .4) (omega arith) in
     let B = helper-placed (g .b) 3 (s .pre .0 .5) (omega arith) in
-    let low : (288 ≤ g .a .base) × (g .a .base < 296) × (288 ≤ g .b .base) × (g .b .base < 296) = omega (arith, s .pre .0 .4, s .pre .0 .5) in
-    ((s .pre .0 .3, s .pre .0 .1, l₁ .size ∙ s .pre .0 .2, T .register, low .0, low .1, low .2, low .3), and-enough n T A B tape (g .t) (enough u₂ [] l₁ (s .pre .1)))
+    and-asked T A B (s .pre .0 .3) (s .pre .0 .1) (l₁ .size ∙ s .pre .0 .2) (enough u₂ [] l₁ (s .pre .1))
 
 returns : tie.Need-returns
 returns c =

@@ -1,15 +1,14 @@
--- `gates::add::passed` meets its contract. Rests on InTurn for `merged`, and on and_parts' Running for steps done in parts.
+-- `gates::add::passed` meets its contract. Rests on add_turn's InTurn for `merged`, and on and_parts' Running for steps done in parts.
 use mathlib.Core.Path.{_∙_}
 use mathlib.Core.List.{[], _∷_}
-use Prim.Native.Nat.{_≤_, _<_}
 use native.Mathlib.Omega.{arith}
 use denote.Ref.{now}
 use borrow.Author.Needs.{needs}
 use Rattle.masking.specs.Translation.{scratch, block, rG, rP, rT}
 use Rattle.and_parts.proofs.Running.{start, part, enough, whole, blocks-part}
 use Rattle.word.specs.declared.step.Step.the-variants.{Xor, And, Shl}
-use Rattle.gates.proofs.Named.{helper-named, helper-placed, and-ran, and-enough}
-use Rattle.gates.proofs.InTurn.{ran}
+use Rattle.gates.proofs.Named.{helper-named, helper-placed, and-ran, and-asked}
+use Rattle.add_turn.proofs.InTurn.{ran}
 use Rattle.gates.proofs.add.passed.Statement.{statement}
 use Rattle.gates.proofs.add.passed.Tie as tie
 
@@ -24,8 +23,7 @@ and-of-helpers-requires c κs =
     let l = blocks-part n (Xor rG rG rT ∷ Shl rT rP k ∷ []) (And rP rP rT ∷ []) (start tape _ (g .t) (now (g .cells))) (ran k n tape (g .t) (c .before .before .before .merged .ensures)) in
     let A = helper-placed (g .a) 2 (s .pre .0 .4) (omega arith) in
     let B = helper-placed (g .b) 3 (s .pre .0 .5) (omega arith) in
-    let low : (288 ≤ g .a .base) × (g .a .base < 296) × (288 ≤ g .b .base) × (g .b .base < 296) = omega (arith, s .pre .0 .4, s .pre .0 .5) in
-    ((s .pre .0 .3, s .pre .0 .1, l .size ∙ s .pre .0 .2, P .register, low .0, low .1, low .2, low .3), and-enough n P A B tape (g .t) (enough (block scratch n (And rP rP rT)) [] l (s .pre .1)))
+    and-asked P A B (s .pre .0 .3) (s .pre .0 .1) (l .size ∙ s .pre .0 .2) (enough (block scratch n (And rP rP rT)) [] l (s .pre .1))
 
 returns : tie.Need-returns
 returns c =

@@ -18,12 +18,4 @@ returns c =
     and-leaves (with-d (p .0, p .1, p .2, p .3) (c .before .before .before .before .register .ensures)) (p .4) (c .before .before .and-of-registers .ensures)
 
 pub and-done-spec : {M : Type 1} → statement M
-and-done-spec =
-    tie.close
-    (tie.spec
-    (λ c κs. search needs)
-    (λ c. search needs)
-    (λ c. search needs)
-    and-of-registers-requires
-    (λ c. search needs)
-    returns)
+and-done-spec = tie.close (tie.spec (λ c κs. search needs) (λ c. search needs) (λ c. search needs) and-of-registers-requires (λ c. search needs) returns)

@@ -1,0 +1,2 @@
+-- Two of ADD's steps share by share (InTurn).
+pub mod InTurn
