@@ -18,10 +18,12 @@ use Rattle.masking.specs.Translation.{scratch, shares, pairs, upFrom, shareCell
 use Rattle.masking.proofs.emitted.Places.{share-cases}
 use Rattle.masking.proofs.emitted.Rising.{length-from}
 use Rattle.masking.proofs.emitted.Wiping.{wiping-shares}
-use Rattle.emission.specs.declared.emit.Cells.{Cells}
-use Rattle.emission.specs.declared.pairs.EachPair.the-variants.{Refresh, Products}
-use Rattle.emission.proofs.Parts.{as-steps}
-use Rattle.emission.specs.inner.Written.{Words, Emits, Room, Fits, Register, cellsOn, cellsFor, eachWord, pairSteps, adderStep}
+use Rattle.emission_rows.specs.declared.Cells.{Cells}
+use Rattle.emission_pairs.specs.declared.EachPair.the-variants.{Refresh, Products}
+use Rattle.emission_rows.proofs.Parts.{as-steps}
+use Rattle.emission_rows.specs.inner.Written.{Words, Emits, Room, Fits, cellsOn, eachWord}
+use Rattle.emission_pairs.specs.inner.Pairs.{pairSteps}
+use Rattle.emission.specs.inner.Laid.{Register, cellsFor, adderStep}
 
 -- ---- AND
 

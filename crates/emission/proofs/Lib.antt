@@ -1,6 +1,2 @@
--- Laws for the proofs of the functions: writing in parts (Parts), words in a row (Rows), what pairs get pair by pair (ByPair), and AND's
--- and ADD's steps in parts (Laid).
-pub mod Parts
-pub mod Rows
-pub mod ByPair
+-- Laws for the proofs of the functions: AND's and ADD's steps in parts (Laid).
 pub mod Laid

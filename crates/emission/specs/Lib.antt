@@ -1,2 +1,2 @@
--- Names for what is written (Written), cited by inner functions only: nothing here has to be believed.
+-- Names for registers and for the steps of ADD (Laid), cited by inner functions only: nothing here has to be believed.
 pub mod inner

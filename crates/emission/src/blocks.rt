@@ -2,13 +2,14 @@
 ghost use Prim.Native.Nat.{_≤_, _<_};
 ghost use Rattle.masking.specs.Translation as translation;
 ghost use Rattle.masking.specs.Translation.{andBlock, andSteps, block, scratch, scratchCells};
-ghost use Rattle.emission.specs.inner.Written as emission;
-ghost use Rattle.emission.specs.inner.Written.{Emits, Fits, Register, Room, cellsOn};
-use crate::emit::Cells;
-use crate::emit::each_share;
-use crate::emit::put_word;
-use crate::pairs::EachPair;
-use crate::pairs::all_pairs;
+ghost use Rattle.emission.specs.inner.Laid as emission;
+ghost use Rattle.emission_rows.specs.inner.Written.{Emits, Fits, Room, cellsOn};
+ghost use Rattle.emission.specs.inner.Laid.{Register};
+use emission_pairs::EachPair;
+use emission_pairs::all_pairs;
+use emission_rows::Cells;
+use emission_rows::each_share;
+use emission_rows::put_word;
 use word::step_word::StepWord;
 
 // The cells of ADD's helper registers, and of AND's scratch.

@@ -5,7 +5,7 @@ use mathlib.Core.Logic.{_⊎_}
 use Prim.Native.Nat.{ℕ, _<_}
 use lib.IntN.{ℤ, pos, negsuc}
 use lib.Signed.{_<ℤ_}
-use Rattle.listing.specs.Sharelist.{inputMax}
+use Rattle.listing_input.specs.Input.{inputMax}
 
 -- `count` bytes are there and the last read answered `last`: it was at the end of the input, or there are more bytes than a listed input has.
 -- Never where that read failed.

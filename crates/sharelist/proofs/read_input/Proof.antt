@@ -9,7 +9,7 @@ use lib.Seq.{length-take-le}
 use borrow.Author.Needs.{needs}
 use borrow.Rule.Slice.PartMut.{putMid}
 use Rattle.io.specs.Counts.{clamped}
-use Rattle.listing.specs.Sharelist.{inputMax}
+use Rattle.listing_input.specs.Input.{inputMax}
 use Rattle.sharelist.proofs.Reading.{ended, full, some}
 use Rattle.sharelist.proofs.read_input.Statement.{statement}
 use Rattle.sharelist.proofs.read_input.Tie as tie

@@ -4,7 +4,7 @@ use Prim.Native.Nat.{ℕ, _-_, _/_, _<_}
 use native.Mathlib.Omega.{arith}
 use borrow.Author.Tests.{ne-eqb}
 use borrow.Author.Needs.{needs}
-use Rattle.emission.specs.inner.Written.{adderStep}
+use Rattle.emission.specs.inner.Laid.{adderStep}
 use Rattle.emission.proofs.Laid.{for-fits, fixed-fits, register-is, register-fits, room-each, room-and, as-xor, as-shl, as-and}
 use Rattle.emission.proofs.blocks.adder_step.Statement.{statement}
 use Rattle.emission.proofs.blocks.adder_step.Tie as tie

@@ -4,8 +4,8 @@ use Prim.Native.Nat.{_-_, _≤_}
 use native.Mathlib.Omega.{arith}
 use lib.ListN.{drop, drop-of-length-le}
 use Rattle.masking.specs.Translation.{scratch, block, blocks, adding}
-use Rattle.emission.specs.inner.Written.{adderStep}
-use Rattle.emission.proofs.Parts.{Left, start, renamed, part, room, whole}
+use Rattle.emission.specs.inner.Laid.{adderStep}
+use Rattle.emission_rows.proofs.Parts.{Left, start, renamed, part, room, whole}
 use Rattle.emission.proofs.Laid.{adding-length, adder-next}
 use Rattle.emission.proofs.blocks.adding.Statement.{statement}
 use Rattle.emission.proofs.blocks.adding.Tie as tie

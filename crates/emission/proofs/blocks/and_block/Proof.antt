@@ -1,6 +1,6 @@
 -- `emission::blocks::and_block` meets its contract: AND's steps, then the wiping.
 use borrow.Author.Needs.{needs}
-use Rattle.emission.proofs.Parts.{start, renamed, part, room, room-last, last}
+use Rattle.emission_rows.proofs.Parts.{start, renamed, part, room, room-last, last}
 use Rattle.emission.proofs.Laid.{and-wiped}
 use Rattle.emission.proofs.blocks.and_block.Statement.{statement}
 use Rattle.emission.proofs.blocks.and_block.Tie as tie

@@ -1,7 +1,7 @@
 -- `emission::blocks::and_steps` meets its contract.
 use native.Mathlib.Omega.{arith}
 use borrow.Author.Needs.{needs}
-use Rattle.emission.proofs.Parts.{start, renamed, part, room, room-last, last}
+use Rattle.emission_rows.proofs.Parts.{start, renamed, part, room, room-last, last}
 use Rattle.emission.proofs.Laid.{and-parts, copyIn, diagonal, copyOut, copied-in, multiplied, copied-out, row-fits, fixed-fits, room-each}
 use Rattle.emission.proofs.blocks.and_steps.Statement.{statement}
 use Rattle.emission.proofs.blocks.and_steps.Tie as tie

@@ -5,7 +5,7 @@ use native.Mathlib.Omega.{arith}
 use borrow.Author.Needs.{needs}
 use Rattle.word.specs.declared.step.Step.the-variants.{Const}
 use Rattle.word.specs.Encoding.{put}
-use Rattle.emission.proofs.Parts.{start, renamed, part, room, room-last, last, as-step}
+use Rattle.emission_rows.proofs.Parts.{start, renamed, part, room, room-last, last, as-step}
 use Rattle.emission.proofs.Laid.{wiping-parts, wipe, wiped, row-fits, fixed-fits, room-each}
 use Rattle.emission.proofs.blocks.wiping.Statement.{statement}
 use Rattle.emission.proofs.blocks.wiping.Tie as tie

@@ -12,8 +12,8 @@ use Rattle.checks.proofs.Checked.{program-check, passed-check, stopped}
 use Rattle.masking.specs.Machine.{rands}
 use Rattle.masking.specs.Runs.{due}
 use Rattle.masking.proofs.InARow.{due-length}
-use Rattle.share_run.proofs.Turns.{due-part}
-use Rattle.share_run.proofs.ByKind.{all-good, part-good}
+use Rattle.share_run.proofs.Parts.{due-part}
+use Rattle.share_machine.proofs.ByKind.{all-good, part-good}
 use Rattle.share_run.proofs.run.run_answer.Statement.{statement}
 use Rattle.share_run.proofs.run.run_answer.Tie as tie
 

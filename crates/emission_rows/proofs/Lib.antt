@@ -1,0 +1,3 @@
+-- Laws for the proofs of the functions, and of those above: writing in parts (Parts), words in a row (Rows).
+pub mod Parts
+pub mod Rows
