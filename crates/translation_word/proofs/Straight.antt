@@ -24,7 +24,7 @@ use Rattle.emission_rows.specs.declared.Cells.{Cells}
 use Rattle.translation_word.specs.inner.Good.{PlanWord}
 use Rattle.emission_rows.specs.inner.Written.{rowOf, cellsOn, Fits, EachFits}
 use Rattle.emission_rows.proofs.Rows.{row-length, each-row}
-use Rattle.emission.proofs.Laid.{fixed, fixed-fits, stays}
+use Rattle.emission_rows.proofs.Each.{fixed, fixed-fits, stays}
 
 -- ---- a good word and its step
 

@@ -2,7 +2,7 @@
 use mathlib.Core.Path.{refl}
 use borrow.Author.Needs.{needs}
 use Rattle.emission_rows.proofs.Parts.{words-room, as-words}
-use Rattle.emission.proofs.Laid.{register-on, fits-for, room-and, as-and}
+use Rattle.emission_add.proofs.Registers.{register-on, fits-for, room-and, as-and}
 use Rattle.translation_word.proofs.Straight.{and-words}
 use Rattle.translation_word.proofs.and_word.Statement.{statement}
 use Rattle.translation_word.proofs.and_word.Tie as tie

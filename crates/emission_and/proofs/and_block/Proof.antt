@@ -1,9 +1,9 @@
--- `emission::blocks::and_block` meets its contract: AND's steps, then the wiping.
+-- `emission_and::and_block` meets its contract: AND's steps, then the wiping.
 use borrow.Author.Needs.{needs}
 use Rattle.emission_rows.proofs.Parts.{start, renamed, part, room, room-last, last}
-use Rattle.emission.proofs.Laid.{and-wiped}
-use Rattle.emission.proofs.blocks.and_block.Statement.{statement}
-use Rattle.emission.proofs.blocks.and_block.Tie as tie
+use Rattle.emission_and.proofs.Laid.{and-wiped}
+use Rattle.emission_and.proofs.and_block.Statement.{statement}
+use Rattle.emission_and.proofs.and_block.Tie as tie
 
 and-steps-requires : tie.Need-and-steps-requires
 and-steps-requires c κs =

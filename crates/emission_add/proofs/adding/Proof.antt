@@ -1,14 +1,14 @@
--- `emission::blocks::adding` meets its contract: ADD's steps are written one by one.
+-- `emission_add::adding` meets its contract: ADD's steps are written one by one.
 use mathlib.Core.Path.{_≡_, refl, ap}
 use Prim.Native.Nat.{_-_, _≤_}
 use native.Mathlib.Omega.{arith}
 use lib.ListN.{drop, drop-of-length-le}
 use Rattle.masking.specs.Translation.{scratch, block, blocks, adding}
-use Rattle.emission.specs.inner.Laid.{adderStep}
+use Rattle.emission_add.specs.inner.Registers.{adderStep}
 use Rattle.emission_rows.proofs.Parts.{Left, start, renamed, part, room, whole}
-use Rattle.emission.proofs.Laid.{adding-length, adder-next}
-use Rattle.emission.proofs.blocks.adding.Statement.{statement}
-use Rattle.emission.proofs.blocks.adding.Tie as tie
+use Rattle.emission_add.proofs.Numbered.{adding-length, adder-next}
+use Rattle.emission_add.proofs.adding.Statement.{statement}
+use Rattle.emission_add.proofs.adding.Tie as tie
 
 abbrev Inv-loop : tie.InvT-loop
 Inv-loop d a b n at out₀ at₀ k₀ out at' k = (k ≤ 33) × Left out₀ at₀ (blocks scratch n (adding (d .first) (a .first) (b .first))) out at' (blocks scratch n (drop k (adding (d .first) (a .first) (b .first)))) × (at₀ ≡ at)

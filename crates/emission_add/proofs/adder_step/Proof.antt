@@ -1,13 +1,14 @@
--- `emission::blocks::adder_step` meets its contract.
+-- `emission_add::adder_step` meets its contract.
 use mathlib.Core.Path.{refl}
 use Prim.Native.Nat.{ℕ, _-_, _/_, _<_}
 use native.Mathlib.Omega.{arith}
 use borrow.Author.Tests.{ne-eqb}
 use borrow.Author.Needs.{needs}
-use Rattle.emission.specs.inner.Laid.{adderStep}
-use Rattle.emission.proofs.Laid.{for-fits, fixed-fits, register-is, register-fits, room-each, room-and, as-xor, as-shl, as-and}
-use Rattle.emission.proofs.blocks.adder_step.Statement.{statement}
-use Rattle.emission.proofs.blocks.adder_step.Tie as tie
+use Rattle.emission_add.specs.inner.Registers.{adderStep}
+use Rattle.emission_rows.proofs.Each.{fixed-fits, room-each}
+use Rattle.emission_add.proofs.Registers.{for-fits, register-is, register-fits, room-and, as-xor, as-shl, as-and}
+use Rattle.emission_add.proofs.adder_step.Statement.{statement}
+use Rattle.emission_add.proofs.adder_step.Tie as tie
 
 round-lt : (k : ℕ) → k < 33 → (k - 3) / 5 < 6
 round-lt k h = omega arith

@@ -1,4 +1,4 @@
--- `emission::blocks::round_step` meets its contract.
+-- `emission_add::round_step` meets its contract.
 use mathlib.Core.Path.{_≡_, refl, ap, _∙_}
 use Prim.Native.Nat.{ℕ, _*_, _%_, _^_, _<_}
 use native.Mathlib.Nat.{mod-eq-of-lt}
@@ -6,9 +6,10 @@ use native.Mathlib.Omega.{arith}
 use lib.Pow.{pow-lt}
 use borrow.Author.Tests.{ne-eqb}
 use borrow.Author.Needs.{needs}
-use Rattle.emission.proofs.Laid.{for-fits, fixed, fixed-fits, room-each, room-and, as-xor, as-shl, as-and}
-use Rattle.emission.proofs.blocks.round_step.Statement.{statement}
-use Rattle.emission.proofs.blocks.round_step.Tie as tie
+use Rattle.emission_rows.proofs.Each.{fixed, fixed-fits, room-each}
+use Rattle.emission_add.proofs.Registers.{for-fits, room-and, as-xor, as-shl, as-and}
+use Rattle.emission_add.proofs.round_step.Statement.{statement}
+use Rattle.emission_add.proofs.round_step.Tie as tie
 
 -- a round's shift fits its field
 shift-lt : (r : ℕ) → r < 6 → 2 ^ r < 512

@@ -1,4 +1,4 @@
--- `emission::blocks::wiping` meets its contract: y, z, t and u one after the other.
+-- `emission_and::wiping` meets its contract: y, z, t and u one after the other.
 use mathlib.Core.Path.{refl}
 use mathlib.Core.List.{[], _∷_}
 use native.Mathlib.Omega.{arith}
@@ -6,9 +6,10 @@ use borrow.Author.Needs.{needs}
 use Rattle.word.specs.declared.step.Step.the-variants.{Const}
 use Rattle.word.specs.Encoding.{put}
 use Rattle.emission_rows.proofs.Parts.{start, renamed, part, room, room-last, last, as-step}
-use Rattle.emission.proofs.Laid.{wiping-parts, wipe, wiped, row-fits, fixed-fits, room-each}
-use Rattle.emission.proofs.blocks.wiping.Statement.{statement}
-use Rattle.emission.proofs.blocks.wiping.Tie as tie
+use Rattle.emission_rows.proofs.Each.{row-fits, fixed-fits, room-each}
+use Rattle.emission_and.proofs.Laid.{wiping-parts, wipe, wiped}
+use Rattle.emission_and.proofs.wiping.Statement.{statement}
+use Rattle.emission_and.proofs.wiping.Tie as tie
 
 each-share-requires : tie.Need-each-share-requires
 each-share-requires c κs =

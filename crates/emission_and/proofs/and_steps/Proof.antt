@@ -1,10 +1,11 @@
--- `emission::blocks::and_steps` meets its contract.
+-- `emission_and::and_steps` meets its contract.
 use native.Mathlib.Omega.{arith}
 use borrow.Author.Needs.{needs}
 use Rattle.emission_rows.proofs.Parts.{start, renamed, part, room, room-last, last}
-use Rattle.emission.proofs.Laid.{and-parts, copyIn, diagonal, copyOut, copied-in, multiplied, copied-out, row-fits, fixed-fits, room-each}
-use Rattle.emission.proofs.blocks.and_steps.Statement.{statement}
-use Rattle.emission.proofs.blocks.and_steps.Tie as tie
+use Rattle.emission_rows.proofs.Each.{row-fits, fixed-fits, room-each}
+use Rattle.emission_and.proofs.Laid.{and-parts, copyIn, diagonal, copyOut, copied-in, multiplied, copied-out}
+use Rattle.emission_and.proofs.and_steps.Statement.{statement}
+use Rattle.emission_and.proofs.and_steps.Tie as tie
 
 each-share-requires : tie.Need-each-share-requires
 each-share-requires c κs =

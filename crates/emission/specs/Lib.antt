@@ -1,2 +1,0 @@
--- Names for registers and for the steps of ADD (Laid), cited by inner functions only: nothing here has to be believed.
-pub mod inner
