@@ -16,7 +16,7 @@ use Rattle.listing.specs.Sharelist.{listing}
 use Rattle.listing_lines.specs.Lines.{hexLines, firstLine, refusedLine}
 use Rattle.listing_parts.specs.Parts.{linesOf}
 use Rattle.listing.specs.Pieces.{PiecesAreListing}
-use Rattle.listing_lines.proofs.Hex.{lines-append}
+use Rattle.listing_hex.proofs.Hex.{lines-append}
 use Rattle.listing_input.proofs.Answered.{taken}
 use Rattle.listing_parts.proofs.PlanWord.{lines-of}
 use Rattle.listing.proofs.Piecewise.{listed-taken, listed-none, head-taken, head-refused, restFrom, pieces-whole}

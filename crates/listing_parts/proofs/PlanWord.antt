@@ -17,7 +17,7 @@ use Rattle.masking.specs.Translation.{translated, wordsFor}
 use Rattle.masking.proofs.emitted.Counts.{step-counts}
 use Rattle.emission_rows.specs.inner.Written.{Words}
 use Rattle.listing_lines.specs.Lines.{hexLines}
-use Rattle.listing_lines.proofs.Hex.{lines-length}
+use Rattle.listing_hex.proofs.Hex.{lines-length}
 use Rattle.listing_lines.proofs.Placed.{line-taken}
 use Rattle.listing_parts.specs.Parts.{wordLines, wordBytes}
 

@@ -2,8 +2,8 @@
 ghost use Rattle.listing_parts.specs.Parts.{ListsPart, wordLines};
 ghost use Rattle.listing_lines.specs.Writing.{Wrote};
 use checks::share_count::is_share_count;
-use listing_lines::words::LINE;
-use listing_lines::words::hex_lines;
+use listing_hex::LINE;
+use listing_hex::hex_lines;
 use translation_word::plan_word;
 use word::step_word::StepWord;
 

@@ -1,10 +1,10 @@
--- `listing_lines::words::hex_line` meets its contract.
+-- `listing_hex::hex_line` meets its contract.
 use Rattle.listing_lines.specs.Lines.{hexLine}
 use native.Mathlib.Omega.{arith}
 use lib.ListN.{length-set}
 use borrow.Author.Needs.{needs}
-use Rattle.listing_lines.proofs.words.hex_line.Statement.{statement}
-use Rattle.listing_lines.proofs.words.hex_line.Tie as tie
+use Rattle.listing_hex.proofs.hex_line.Statement.{statement}
+use Rattle.listing_hex.proofs.hex_line.Tie as tie
 
 slice-write-out-2 : tie.Need-slice-write-out-2
 slice-write-out-2 c = simp length-set (omega arith)

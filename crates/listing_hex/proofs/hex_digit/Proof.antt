@@ -1,8 +1,8 @@
--- `listing_lines::words::hex_digit` meets its contract.
+-- `listing_hex::hex_digit` meets its contract.
 use borrow.Author.Tests.{lt-ltb, le-ltb}
 use borrow.Author.Needs.{needs}
-use Rattle.listing_lines.proofs.words.hex_digit.Statement.{statement}
-use Rattle.listing_lines.proofs.words.hex_digit.Tie as tie
+use Rattle.listing_hex.proofs.hex_digit.Statement.{statement}
+use Rattle.listing_hex.proofs.hex_digit.Tie as tie
 
 returns : tie.Need-returns
 returns c = simp (lt-ltb _ _ (c .if1 .taken))

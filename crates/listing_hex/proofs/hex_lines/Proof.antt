@@ -1,16 +1,16 @@
--- `listing_lines::words::hex_lines` meets its contract.
+-- `listing_hex::hex_lines` meets its contract.
 use Rattle.checks.proofs.Slices.{part-is, part-back}
-use Rattle.listing_lines.proofs.Hex.{lines-on, line-fits, lines-length}
+use Rattle.listing_hex.proofs.Hex.{lines-on, line-fits, lines-length}
 use Rattle.listing_lines.proofs.Placed.{Left, start, whole, renamed, wrote, wrote-none}
 use Rattle.listing_lines.specs.Lines.{hexLine, hexLines}
 use borrow.Author.Needs.{needs}
 use denote.Ref.{now}
 use lib.ListN.{length, drop, getD, length-drop, drop-of-length-le}
 use native.Mathlib.Omega.{arith}
 use Prim.Native.Nat.{_-_, _*_, _≤_}
 use mathlib.Core.Path.{_≡_, refl, ap}
-use Rattle.listing_lines.proofs.words.hex_lines.Statement.{statement}
-use Rattle.listing_lines.proofs.words.hex_lines.Tie as tie
+use Rattle.listing_hex.proofs.hex_lines.Statement.{statement}
+use Rattle.listing_hex.proofs.hex_lines.Tie as tie
 
 abbrev Inv-loop : tie.InvT-loop
 Inv-loop words out₀ at₀ i₀ i-end out at i = (i ≤ length words) × (i-end ≡ length words) × (at ≡ 9 * i) × Left (hexLines words) out₀ 0 (hexLines (drop i words)) out at
