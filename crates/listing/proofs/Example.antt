@@ -5,7 +5,8 @@ use Rattle.word.specs.Layout.{lengthOf, tapeOf}
 use Rattle.masking.specs.Translation.{shareCell, translated}
 use Rattle.checks.specs.Answers.{planChecked}
 use Rattle.translation.specs.Calls.{planFor}
-use Rattle.listing.specs.Sharelist.{listAnswer, listing, ExampleListed}
+use Rattle.listing_input.specs.Input.{listAnswer}
+use Rattle.listing.specs.Sharelist.{listing, ExampleListed}
 use Rattle.listing_lines.specs.Lines.{decimal, hexLine, firstLine, refusedLine}
 
 pub example : ExampleListed

@@ -1,9 +1,5 @@
--- Laws for the proofs of the functions: the input's words (Words), the answer by its cases (Answered), one plan word's lines (PlanWord), a
--- listing's lines part by part (Parts), and the listing piece by piece (Piecewise). Whole: the pieces are the listing. Long: an input that is too long.
-pub mod Words
-pub mod Answered
-pub mod PlanWord
-pub mod Parts
+-- Laws for the proofs of the functions: the listing piece by piece (Piecewise). Whole: the pieces are the listing. Long: that of an input which is too
+-- long. Example: document 01's.
 pub mod Piecewise
 pub mod Whole
 pub mod Long

@@ -9,8 +9,9 @@ use lib.Seq.{length-take-le, getD-take}
 use Rattle.word.specs.Layout.{isShareCount}
 use Rattle.checks.specs.Answers.{refused}
 use Rattle.listing_lines.specs.Lines.{refusedLine}
-use Rattle.listing.specs.Sharelist.{listAnswer, listing, LongInputs}
-use Rattle.listing.proofs.Answered.{bad-count, too-long}
+use Rattle.listing_input.specs.Input.{listAnswer}
+use Rattle.listing_input.proofs.Answered.{bad-count, too-long}
+use Rattle.listing.specs.Sharelist.{listing, LongInputs}
 
 refused-1 : (input : List ℕ) → listAnswer input ≡ refused 1 → listing input ≡ refusedLine 1
 unfolding listing

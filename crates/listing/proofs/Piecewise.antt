@@ -14,15 +14,16 @@ use Rattle.word.specs.Layout.{planMax}
 use Rattle.checks.specs.Answers.{keptUnless}
 use Rattle.translation.specs.Calls.{measured}
 use Rattle.translation.proofs.Counted.{accepted}
-use Rattle.listing.specs.Sharelist.{listAnswer, countOf, planRead}
+use Rattle.listing_input.specs.Input.{listAnswer, countOf, planRead}
 use Rattle.listing_lines.specs.Lines.{firstLine, refusedLine}
 use Rattle.listing_lines.specs.Writing.{Wrote}
-use Rattle.listing.specs.Pieces.{ListsPart, ListsPiece, wordLines, linesOf, wordBytes, listedWords, headOf, pieceCount, pieceText, wordsListed, pieceNext, pieceLast, piecesFrom}
+use Rattle.listing_parts.specs.Parts.{ListsPart, wordLines, linesOf, wordBytes}
+use Rattle.listing.specs.Pieces.{ListsPiece, listedWords, headOf, pieceCount, pieceText, wordsListed, pieceNext, pieceLast, piecesFrom}
 use Rattle.listing_lines.proofs.Placed.{fits}
 use Rattle.listing_lines.proofs.Decimal.{decimal-most}
-use Rattle.listing.proofs.Answered.{taken}
-use Rattle.listing.proofs.PlanWord.{lines-most}
-use Rattle.listing.proofs.Parts.{fit-some, fitted-most}
+use Rattle.listing_input.proofs.Answered.{taken}
+use Rattle.listing_parts.proofs.PlanWord.{lines-most}
+use Rattle.listing_parts.proofs.Parts.{fit-some, fitted-most}
 
 -- ---- by the answer's cases
 

@@ -1,42 +1,17 @@
--- What the functions of this crate write: the lines of plan words part by part, and the whole listing piece by piece.
+-- The listing piece by piece: the first line or the refusal, then the lines of plan words.
 use mathlib.Core.Path.{_≡_}
 use mathlib.Core.Bool.{Bool, cond}
-use mathlib.Core.List.{List, [], _∷_, _++_}
-use Prim.Native.Nat.{ℕ, zero, suc, _+_, _-_, _*_, _≤_}
-use lib.Dec.{leb, ltb, eqb}
+use mathlib.Core.List.{List, [], _++_}
+use Prim.Native.Nat.{ℕ, zero, suc, _+_, _≤_}
+use lib.Dec.{leb, eqb}
 use lib.ListN.{length, take, drop}
-use Rattle.word.specs.Layout.{planMax, wordMax}
+use Rattle.word.specs.Layout.{planMax}
 use Rattle.checks.specs.Answers.{keptUnless}
-use Rattle.listing_lines.specs.Lines.{hexLines, firstLine, refusedLine}
+use Rattle.listing_lines.specs.Lines.{firstLine, refusedLine}
 use Rattle.listing_lines.specs.Writing.{fitting, Wrote}
-use Rattle.masking.specs.Translation.{program}
-use Rattle.translation.specs.Calls.{measureAnswer}
-use Rattle.listing.specs.Sharelist.{listAnswer, countOf, planRead, listing}
-
--- the lines of one plan word; none where Measure turns the word down
-unfoldable pub wordLines : ℕ → ℕ → List ℕ
-wordLines n w = keptUnless (eqb (measureAnswer n (w ∷ []) .number) 0) (hexLines (program n (w ∷ []))) []
-
--- the lines of each plan word in turn
-abbrev pub linesOf : ℕ → List ℕ → List ℕ
-linesOf n [] = []
-linesOf n (w ∷ ws) = wordLines n w ++ linesOf n ws
-
--- the most bytes that a plan word's lines take, nine for each of its share words
-abbrev pub wordBytes : ℕ
-wordBytes = 9 * wordMax
-
--- how many words of a plan are listed into `room` bytes: as many as begin while `wordBytes` are left
-abbrev pub fitCount : ℕ → List ℕ → ℕ → ℕ
-fitCount n [] room = 0
-fitCount n (w ∷ ws) room = cond (ltb room wordBytes) 0 (suc (fitCount n ws (room - length (wordLines n w))))
-
--- a part of the listing: the lines of the plan's words from one on, as many as `fitCount` says, with the next word's number
-pub record ListsPart (n : ℕ) (plan : List ℕ) (from : ℕ) (out after : List ℕ) (next bytes : ℕ) : Type 0 where
-  pub moved : next ≡ from + fitCount n (drop from plan) (length out)
-  pub lines : Wrote (linesOf n (take (fitCount n (drop from plan) (length out)) (drop from plan))) out after bytes
-
--- ---- the listing piece by piece
+use Rattle.listing_input.specs.Input.{listAnswer, countOf, planRead}
+use Rattle.listing_parts.specs.Parts.{linesOf, wordBytes, fitCount}
+use Rattle.listing.specs.Sharelist.{listing}
 
 -- the plan words that are listed: none where the input is turned down
 unfoldable pub listedWords : List ℕ → List ℕ

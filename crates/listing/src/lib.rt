@@ -1,5 +1,3 @@
-// What the program `sharelist` makes of its input: the answer and the plan's words (input), the lines of the share words (lines), and all of
-// these piece by piece (pieces). `specs/` has the definitions that the contracts cite.
-pub mod input;
-pub mod lines;
+// What the program `sharelist` writes for its input, piece by piece (pieces), over its input bytes (listing_input) and the lines of plan words
+// (listing_parts). `specs/` has the definitions that the contracts cite.
 pub mod pieces;

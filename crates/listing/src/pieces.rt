@@ -1,12 +1,12 @@
 // The listing piece by piece: the first line or the refusal, then the lines of as many plan words as there is room for.
 ghost use Rattle.listing.specs.Pieces.{ListsPiece, headOf, listedWords};
 ghost use Rattle.listing_lines.specs.Writing.{Wrote};
-use crate::input::list_answer;
-use crate::input::plan_words;
-use crate::input::share_count;
-use crate::lines::list_part;
+use listing_input::list_answer;
+use listing_input::plan_words;
+use listing_input::share_count;
 use listing_lines::line::first_line;
 use listing_lines::line::refused_line;
+use listing_parts::list_part;
 use word::step_word::StepWord;
 
 // The plan words that are listed, at the front of `plan`: none where the input is turned down. The answer counts them.

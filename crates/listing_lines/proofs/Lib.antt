@@ -1,4 +1,3 @@
--- Laws for the proofs of the functions: texts written in parts and whole (Placed), share words' lines (Hex), decimal digits (Decimal).
+-- Laws for the proofs of the functions, and of those above: texts written in parts and whole (Placed), decimal digits (Decimal).
 pub mod Placed
-pub mod Hex
 pub mod Decimal

@@ -1,7 +1,5 @@
--- Laws for the proofs of the functions: one turn of a loop over share words (Turns), what the rule of share programs says of a step (Steps), what a good word takes of the tape (ByKind), what holds where a run
--- is done (Done), and the bounds on what it reports (Bounds).
-pub mod Steps
-pub mod Turns
-pub mod ByKind
+-- Laws for the proofs of the functions: the parts of program and tape that a run is given (Parts), what holds where a run is done (Done), and
+-- the bounds on what it reports (Bounds).
+pub mod Parts
 pub mod Done
 pub mod Bounds

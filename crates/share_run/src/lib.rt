@@ -1,4 +1,3 @@
-// Share run, one share step, and share runs in a row. masking's `specs/` has the definitions that the contracts cite.
-mod exec;
+// Share run and one share step (run), and share runs in a row (in_a_row). masking's `specs/` has the definitions that the contracts cite.
 pub mod in_a_row;
 pub mod run;

@@ -3,11 +3,11 @@ ghost use mathlib.Core.Path.{_≡_};
 ghost use Prim.Native.Nat.{min};
 ghost use Rattle.masking.specs.Demand3.{Demand3Holds};
 ghost use Rattle.masking.specs.Runs.{runAnswer, runCells, runRest, standing, stepAnswer, stepCells};
-ghost use Rattle.share_run.specs.inner.Good.{AllGood};
-use crate::exec::exec;
-use crate::exec::rands;
+ghost use Rattle.share_machine.specs.inner.Good.{AllGood};
 use checks::answer::Answer;
 use checks::program::check_program;
+use share_machine::exec::exec;
+use share_machine::rands::rands;
 use word::step_word::StepWord;
 
 fn smaller(a: usize, b: usize) -> usize

@@ -10,7 +10,8 @@ use lib.Seq.{take-at, drop-at, drop-drop}
 use Rattle.listing_lines.specs.Writing.{Wrote}
 use Rattle.listing_lines.proofs.Placed.{all-given, all-taken}
 use Rattle.listing.specs.Sharelist.{listing}
-use Rattle.listing.specs.Pieces.{ListsPiece, wordBytes, pieceText, pieceNext, pieceLast}
+use Rattle.listing_parts.specs.Parts.{wordBytes}
+use Rattle.listing.specs.Pieces.{ListsPiece, pieceText, pieceNext, pieceLast}
 use Rattle.listing.proofs.Piecewise.{piece-most, restFrom, rest-on, rest-none, rest-most}
 use Rattle.listing.proofs.Whole.{rest-is-listing}
 use Rattle.sharelist.specs.HandedOn.{Follows}

@@ -12,7 +12,7 @@ use lib.IntN.{ℤ, pos, negsuc}
 use lib.Signed.{leZ, ltZ}
 use borrow.Author.Tests.{leb-true, leb-false}
 use Rattle.io.specs.Counts.{clamped}
-use Rattle.listing.specs.Sharelist.{inputMax}
+use Rattle.listing_input.specs.Input.{inputMax}
 use Rattle.sharelist.specs.Whole.{Whole, WasRead, MoreRead}
 
 never : {A : Type 0} → true ≡ false → A

@@ -10,7 +10,7 @@ use lib.ListN.{length, take}
 use lib.IntN.{ℤ, pos, negsuc}
 use lib.Signed.{_<ℤ_}
 use Rattle.io.specs.Counts.{clamped}
-use Rattle.listing.specs.Sharelist.{inputMax}
+use Rattle.listing_input.specs.Input.{inputMax}
 
 -- POSIX's number of standard input
 abbrev pub standardInput : ℤ

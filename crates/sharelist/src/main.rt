@@ -4,14 +4,15 @@ ghost use mathlib.Core.Path.{_≡_};
 ghost use Prim.Native.Nat.{_<_};
 ghost use lib.ListN.{length, take};
 ghost use Rattle.io.specs.Counts.{Counts};
-ghost use Rattle.listing.specs.Sharelist.{inputMax, listing};
+ghost use Rattle.listing_input.specs.Input.{inputMax};
+ghost use Rattle.listing.specs.Sharelist.{listing};
 ghost use Rattle.sharelist.specs.HandedOn.{Follows, HandedAll, HandedOn, standardOutput};
 ghost use Rattle.sharelist.specs.Whole.{MoreRead, WasRead, Whole, standardInput};
 use libc::STDERR_FILENO;
 use libc::STDIN_FILENO;
 use libc::STDOUT_FILENO;
-use listing::input::INPUT_MAX;
 use listing::pieces::list_piece;
+use listing_input::INPUT_MAX;
 
 // One byte more than an input may have, so that a longer one is seen.
 const INPUT: usize = INPUT_MAX + 1;

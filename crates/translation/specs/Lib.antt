@@ -1,5 +1,3 @@
--- Measure and Translate: their answers, and what they leave in lent slices (Calls); what ties Translate to demand 3 (Tied). Inner has a
--- name that only inner functions cite.
+-- Measure and Translate: their answers, and what they leave in lent slices (Calls); what ties Translate to demand 3 (Tied).
 pub mod Calls
 pub mod Tied
-pub mod inner

@@ -1,4 +1,3 @@
 // Measure and Translate. `specs/` and masking's `specs/` have the definitions that the contracts cite.
 pub mod measure;
-mod plan_word;
 pub mod translate;

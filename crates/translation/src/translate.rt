@@ -8,8 +8,8 @@ ghost use Rattle.masking.specs.Translation.{program};
 ghost use Rattle.translation.specs.Calls.{translateAnswer, translateOut};
 ghost use Rattle.translation.specs.Tied.{TranslateTied};
 use crate::measure::measure;
-use crate::plan_word::plan_word;
 use checks::answer::Answer;
+use translation_word::plan_word;
 
 // Writes the words of each plan word where the last one's ended. The answer was given before, so that no word is bad.
 fn translate_words(n: u8, plan: &[u32], out: &mut [u32])

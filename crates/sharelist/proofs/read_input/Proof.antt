@@ -11,7 +11,7 @@ use mir.Val.{toZ, ofZ}
 use mir.Facts.{toZ-ofZ}
 use lib.Seq.{length-take-le}
 use borrow.Author.Needs.{needs}
-use Rattle.listing.specs.Sharelist.{inputMax}
+use Rattle.listing_input.specs.Input.{inputMax}
 use Rattle.sharelist.proofs.Reading.{ended, full, room-left, grows}
 use Rattle.sharelist.proofs.read_input.Statement.{statement}
 use Rattle.sharelist.proofs.read_input.Tie as tie

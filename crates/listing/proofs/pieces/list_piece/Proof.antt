@@ -1,5 +1,5 @@
 -- `listing::pieces::list_piece` meets its contract.
-use Rattle.listing.proofs.Parts.{part-ends}
+use Rattle.listing_parts.proofs.Parts.{part-ends}
 use Rattle.listing.proofs.Piecewise.{listed-most, first-piece, next-piece}
 use Rattle.listing_lines.proofs.Placed.{counts, all-given, all-taken}
 use native.Mathlib.Omega.{arith}

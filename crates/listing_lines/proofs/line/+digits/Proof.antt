@@ -1,4 +1,4 @@
--- `listing::text::digits` meets its contract.
+-- `listing_lines::line::digits` meets its contract.
 use lib.Seq.{length-sets}
 use denote.Ref.{now}
 use lib.ListN.{length-set, length}

@@ -9,8 +9,8 @@ use Rattle.checks.specs.Answers.{done}
 use Rattle.masking.specs.Machine.{rands}
 use Rattle.masking.specs.Runs.{due}
 use Rattle.masking.proofs.OneRun.{due-length}
-use Rattle.share_run.proofs.Turns.{due-part}
-use Rattle.share_run.proofs.ByKind.{part-good}
+use Rattle.share_run.proofs.Parts.{due-part}
+use Rattle.share_machine.proofs.ByKind.{part-good}
 use Rattle.share_run.proofs.run.rest_answer.Statement.{statement}
 use Rattle.share_run.proofs.run.rest_answer.Tie as tie
 

@@ -6,7 +6,7 @@ use Rattle.word.specs.Encoding.{programStep}
 use Rattle.word.specs.Layout.{programMax}
 use Rattle.checks.specs.Answers.{programChecked}
 use Rattle.checks.proofs.Checked.{program-check, passed-check, stopped}
-use Rattle.share_run.proofs.ByKind.{all-good}
+use Rattle.share_machine.proofs.ByKind.{all-good}
 use Rattle.share_run.proofs.run.run_answer.Statement.{statement}
 use Rattle.share_run.proofs.run.run_answer.Tie as tie
 

@@ -8,7 +8,7 @@ use borrow.Author.Tests.{eq-eqb, ne-eqb}
 use Rattle.masking.specs.Runs.{due, standing}
 use Rattle.masking.proofs.Demand3.{demand3}
 use Rattle.share_run.proofs.Done.{ready}
-use Rattle.share_run.proofs.Turns.{due-part, rest-part}
+use Rattle.share_run.proofs.Parts.{due-part, rest-part}
 use borrow.Author.Needs.{needs}
 use Rattle.share_run.proofs.run.share_run.Statement.{statement}
 use Rattle.share_run.proofs.run.share_run.Tie as tie

@@ -1,0 +1,2 @@
+-- Laws for the proofs of the functions: the lines of share words (Hex).
+pub mod Hex

@@ -1,0 +1,2 @@
+-- What `sharelist` makes of its input (Input).
+pub mod Input

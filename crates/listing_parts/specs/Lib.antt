@@ -1,0 +1,2 @@
+-- The lines of a plan's words, part by part (Parts).
+pub mod Parts

@@ -1,0 +1,4 @@
+// The share machine: words done on the cells (exec), and the tape words that they take (rands). An inner crate of share run: its functions ask
+// for 512 cells, a tape that is long enough, and good words where RANDs are counted.
+pub mod exec;
+pub mod rands;
