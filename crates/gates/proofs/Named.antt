@@ -1,19 +1,19 @@
--- The blocks of a translation by the places of their registers. Rests on masking's Places.
+-- The blocks of a translation by the places of their registers. Rests on masking's Places, and on and_parts' Running for an AND that is the last step left.
 use mathlib.Core.Path.{_≡_, refl, sym, ap, _∙_, subst}
-use mathlib.Core.List.{List, map}
+use mathlib.Core.List.{List, [], _++_, map}
 use Prim.Native.Nat.{ℕ, _+_, _-_, _*_, _≤_, _<_}
 use native.Mathlib.Omega.{arith}
 use lib.ListN.{length}
 use Rattle.word.specs.declared.step.Step.{Step}
 use Rattle.word.specs.declared.step.Step.the-variants.{And}
-use Rattle.masking.specs.Translation.{shares, shareCell, cellsOf, scratch, block, andBlock}
+use Rattle.masking.specs.Translation.{shares, shareCell, cellsOf, scratch, block, andBlock, rP, rT}
 use Rattle.masking.proofs.emitted.Places.{share-register, share-helper}
 use Rattle.and_parts.specs.declared.once.Place.{Place}
 use Rattle.and_parts.specs.declared.once.Op.{Op}
 use Rattle.and_parts.specs.inner.Effects.{Enough, Ran, Register, Still, at, onceStep, placed}
-use Rattle.and_many.specs.inner.Asked.{Asked}
+use Rattle.and_many.specs.inner.Asked.{Asked, andOf}
 use Rattle.gates.specs.inner.PlanWords.{IsHelper, OfPlan}
-use Rattle.and_parts.proofs.Running.{still-ran}
+use Rattle.and_parts.proofs.Running.{Left, enough, part, still-ran, whole}
 use Rattle.and_parts.proofs.Turn.{once-rands}
 
 -- ---- places and the registers that they are
@@ -91,3 +91,13 @@ pub and-asked : {n : ℕ} {pd : Place} {x y over d a b : ℕ} {tape cells : List
     → 2 ≤ n → n ≤ 8 → length cells ≡ 512 → Enough tape t (block scratch n (And d a b)) → Asked n pd x y over tape t cells
 and-asked {n} {tape = tape} {t = t} ed ea eb l m e w =
     record { least = l; most = m; size = e; to = ed .register; left = ea .register; right = eb .register; words = subst (Enough tape t) (sym (and-block n ed ea eb)) w }
+
+-- an AND of ADD's P and T, at places that are theirs, as the last step that is left
+module _ (n : ℕ) {pd : Place} {d : ℕ} (D : Named pd d) (pa pb : Place) (A : IsHelper 2 pa) (B : IsHelper 3 pb) {tape : List ℕ} {ss : List Step} {t : ℕ} {cells : List ℕ} {t' : ℕ} {c : List ℕ}
+    (l : Left tape ss t cells (block scratch n (And d rP rT) ++ []) t' c) where
+  pub last-asked : 2 ≤ n → n ≤ 8 → length cells ≡ 512 → Enough tape t ss → Asked n pd (pa .base) (pb .base) 8 tape t' c
+  last-asked two eight size e =
+      and-asked D (helper-placed pa 2 A (omega arith)) (helper-placed pb 3 B (omega arith)) two eight (l .size ∙ size) (enough (block scratch n (And d rP rT)) [] l e)
+
+  pub last-done : {c' : List ℕ} {t'' : ℕ} → Ran (andOf n pd (pa .base) (pb .base) 8) tape t' c c' t'' → Ran ss tape t cells c' t''
+  last-done r = whole (part (block scratch n (And d rP rT)) [] l (and-ran n D (helper-placed pa 2 A (omega arith)) (helper-placed pb 3 B (omega arith)) r))
