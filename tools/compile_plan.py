@@ -5,7 +5,8 @@ usage: compile_plan.py [--check] [NAME..]
 
 NAME is a section of tools/plans.ini, by default each; its crate, crates/compiled_NAME, is written from the texts in tools/compiled, or with --check
 compared with what would be written. Each run of linear words between ANDs and ADDs becomes straight code on one share, an arm of a
-match on the run's number (plan_cut.py). The prover checks all of it, so that nothing here has to be trusted."""
+match on the run's number (plan_cut.py). A plan of more than 27 arms has them in crates of their own, compiled_NAME_runs and, for those from number K on,
+compiled_NAME_from_K. The prover checks all of it, so that nothing here has to be trusted."""
 import configparser
 import os
 import shutil
