@@ -1,6 +1,6 @@
 -- Known registers decide a plan's results and the words of its steps (`known-decide`): its words' steps on registers read known registers alone, and
--- so do their share steps by DecidedBlocks. Rests also on emitted's Steps and secret's Programs (words as steps).
-use mathlib.Core.Path.{_≡_, refl, sym, ap, _∙_}
+-- so do their share steps by DecidedBlocks. Rests also on checks' Unset, emitted's Steps and secret's Programs (words as steps).
+use mathlib.Core.Path.{_≡_, sym, ap, _∙_}
 use mathlib.Core.Bool.{not}
 use mathlib.Core.List.{List, [], _∷_}
 use mathlib.Core.Logic.{inl, inr}
@@ -10,9 +10,7 @@ use lib.Dec.{T, eqb, eqb→eq}
 use lib.ListN.{length, getD, take}
 use Rattle.word.specs.declared.step.Step.{Step}
 use Rattle.word.specs.declared.step.Step.the-variants.{Rand}
-use Rattle.word.specs.declared.step.Decoded.{Decoded}
-use Rattle.word.specs.declared.step.Decoded.the-variants.{Good, Bad}
-use Rattle.word.specs.Encoding.{kindNumber, within, inPlan, inProgram, planStep}
+use Rattle.word.specs.Encoding.{kindNumber, within, inPlan, inProgram}
 use Rattle.word.specs.Layout.{cell}
 use Rattle.word.specs.Table.{dest, reads, Each, allIn}
 use Rattle.word.proofs.Ranges.{both, tested-each, within-cells}
