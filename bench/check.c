@@ -107,7 +107,7 @@ static void check_plain_layers(void) {
 }
 
 static uint32_t random_plan_word(void) {
-    uint32_t kind = 1 + random_word() % 8, r = (uint32_t)random_word() & 0x007C3E1F; /* registers below 32, shifts too */
+    uint32_t kind = 1 + random_word() % 8, r = (uint32_t)random_word() & 0x007C0E07; /* d below 32; what is read, and shifts, below 8 */
     if (kind == 4 || kind == 7) r &= ~UINT32_C(511);
     return kind << 28 | r;
 }

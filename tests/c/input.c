@@ -9,8 +9,18 @@ static unsigned random_register(void) {
     return below(2) ? below(4) : below(32);
 }
 
-uint32_t plan_word_of(unsigned kind) {
-    unsigned d = random_register(), a = random_register(), b = below(3) ? random_register() : a;
+/* Registers that hold something: 0 to 7 at the start of a plan, which carry its input, and those written since. */
+#define INPUT_REGISTERS UINT32_C(0xFF)
+
+static unsigned register_of(uint32_t set) {
+    for (;;) {
+        unsigned r = random_register();
+        if (set >> r & 1) return r;
+    }
+}
+
+static uint32_t plan_word_over(unsigned kind, uint32_t set) {
+    unsigned d = random_register(), a = register_of(set), b = below(3) ? register_of(set) : a;
     switch (kind) {
     case REF_CONST: return ref_word(kind, d, below(512), below(512));
     case REF_NOT:
@@ -21,8 +31,16 @@ uint32_t plan_word_of(unsigned kind) {
     }
 }
 
+uint32_t plan_word_of(unsigned kind) {
+    return plan_word_over(kind, INPUT_REGISTERS);
+}
+
 void random_plan(uint32_t *plan, size_t len) {
-    for (size_t i = 0; i < len; i++) plan[i] = plan_word_of(1 + below(8));
+    uint32_t set = INPUT_REGISTERS;
+    for (size_t i = 0; i < len; i++) {
+        plan[i] = plan_word_over(1 + below(8), set);
+        set |= UINT32_C(1) << (plan[i] >> 18 & 31);
+    }
 }
 
 uint32_t random_share_word(void) {

@@ -6,6 +6,7 @@
 #include <stddef.h>
 #include <stdint.h>
 
+/* A plan's word that reads registers 0 to 7; a plan whose words read those, and registers that words before have written. */
 uint32_t plan_word_of(unsigned kind);
 void random_plan(uint32_t *plan, size_t len);
 uint32_t random_share_word(void);

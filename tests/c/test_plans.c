@@ -119,7 +119,7 @@ void test_measure(void) {
             random_plan(plan, len);
             try_measure(0, n, plan, len);
         }
-    for (size_t i = 0; i < REF_PLAN_LIMIT; i++) plan[i] = ref_word(REF_ADD, 31, 31, 31);
+    for (size_t i = 0; i < REF_PLAN_LIMIT; i++) plan[i] = ref_word(REF_ADD, 7, 7, 7);
     CHECK(try_measure(0, 8, plan, REF_PLAN_LIMIT).words == REF_PROGRAM_LIMIT, "measure: the longest share program");
     end("1 to 3 in all combinations, places, the documents' figures, random plans for n = 2..8");
 }
@@ -173,7 +173,7 @@ static void translate_in_parts(uint32_t *out) {
 
 static void translate_the_longest(uint32_t *out) {
     uint32_t plan[REF_PLAN_LIMIT];
-    for (size_t i = 0; i < REF_PLAN_LIMIT; i++) plan[i] = ref_word(REF_ADD, i % 32, i / 32 % 32, i * 7 % 32);
+    for (size_t i = 0; i < REF_PLAN_LIMIT; i++) plan[i] = ref_word(REF_ADD, i % 32, i / 32 % 8, i * 7 % 8);
     memset(out, 0, (REF_PROGRAM_LIMIT + 64) * sizeof *out);
     try_translate(4, 8, plan, REF_PLAN_LIMIT, out, REF_PROGRAM_LIMIT - 1);
     try_translate(0, 8, plan, REF_PLAN_LIMIT, out, REF_PROGRAM_LIMIT + 64);
