@@ -30,9 +30,14 @@ abbrev pub placedIn : ℕ → ℕ → List ℕ → List ℕ → List ℕ
 placedIn r i [] cells = cells
 placedIn r i (x ∷ xs) cells = placedIn r (suc i) xs (set cells (cell i r) x)
 
--- operands in registers 0 and 1, over cells
+-- operands in registers r and up, over cells
+abbrev pub placedFrom : ℕ → List (List ℕ) → List ℕ → List ℕ
+placedFrom r [] cells = cells
+placedFrom r (x ∷ xs) cells = placedFrom (suc r) xs (placedIn r 0 x cells)
+
+-- two of them, in registers 0 and 1
 abbrev pub placedOver : List ℕ → List ℕ → List ℕ → List ℕ
-placedOver x y cells = placedIn 1 0 y (placedIn 0 0 x cells)
+placedOver x y cells = placedFrom 0 (x ∷ y ∷ []) cells
 
 -- "Work starts as zeros with operands placed". The code places them over what the work slice holds; that its results are those from zeros is
 -- proved (masking/specs/Reads, and operations/specs/Masked for each step's word).
