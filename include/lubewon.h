@@ -151,7 +151,8 @@ lubewon_answer lubewon_measure(size_t n, const uint32_t *plan, size_t plan_len);
 /* The share program of a plan for n shares, at the front of out; out stays as it is past the program's
  * end. Turn-downs 1 to 4: 4 where out is shorter than measured. Counts are Measure's. A program stored by
  * a version before 0.12 still runs, but leaves AND's cells unwiped: translate its plan anew. */
-lubewon_answer lubewon_translate(size_t n, const uint32_t *plan, size_t plan_len, uint32_t *out, size_t out_len);
+lubewon_answer lubewon_translate(size_t n, const uint32_t *plan, size_t plan_len, uint32_t *out,
+                                 size_t out_len);
 
 /* A plan on exactly 32 plain cells, its registers. Turn-downs 2, 3, 4. No counts. */
 lubewon_answer lubewon_plain_run(const uint32_t *plan, size_t plan_len, uint64_t *cells, size_t cells_len);
@@ -161,12 +162,13 @@ lubewon_answer lubewon_plain_run(const uint32_t *plan, size_t plan_len, uint64_t
  * place + words and tape_place + tape. Turn-downs 2 to 6: 6 where those words hold more RAND than tape
  * remains. The whole program is checked first, each time. The cells keep shares afterwards, and inside an
  * AND or ADD masks too: wipe all 512 when done, or when a run is given up. */
-lubewon_answer lubewon_share_run(const uint32_t *program, size_t program_len, size_t place, const uint64_t *tape, size_t tape_len,
-                                 size_t tape_place, size_t budget, uint64_t *cells, size_t cells_len);
+lubewon_answer lubewon_share_run(const uint32_t *program, size_t program_len, size_t place,
+                                 const uint64_t *tape, size_t tape_len, size_t tape_place, size_t budget,
+                                 uint64_t *cells, size_t cells_len);
 
 /* One word of a share program, likewise. Turn-downs 3 to 6. */
-lubewon_answer lubewon_one_share_step(uint32_t word, const uint64_t *tape, size_t tape_len, size_t tape_place, uint64_t *cells,
-                                      size_t cells_len);
+lubewon_answer lubewon_one_share_step(uint32_t word, const uint64_t *tape, size_t tape_len, size_t tape_place,
+                                      uint64_t *cells, size_t cells_len);
 
 /* Product, sum, floor, truncation and nearest on n shares, n the first operand's length: y and result
  * have n words, work 512. Turn-downs 1, 4, 6. tape counts the tape words used, as the macros above have
@@ -174,16 +176,19 @@ lubewon_answer lubewon_one_share_step(uint32_t word, const uint64_t *tape, size_
  * at the start changes neither result nor answer; it is zeros when the call is done. It is not cleared
  * before shares are written there. Where other code than these calls has left secret words in it, clear
  * it first. */
-lubewon_answer lubewon_product_shares(const uint64_t *x, size_t x_len, const uint64_t *y, size_t y_len, uint64_t *result,
-                                      size_t result_len, uint64_t *work, size_t work_len, const uint64_t *tape, size_t tape_len);
-lubewon_answer lubewon_sum_shares(const uint64_t *x, size_t x_len, const uint64_t *y, size_t y_len, uint64_t *result, size_t result_len,
-                                  uint64_t *work, size_t work_len, const uint64_t *tape, size_t tape_len);
-lubewon_answer lubewon_floor_shares(const uint64_t *x, size_t x_len, uint64_t *result, size_t result_len, uint64_t *work, size_t work_len,
-                                    const uint64_t *tape, size_t tape_len);
-lubewon_answer lubewon_truncate_shares(const uint64_t *x, size_t x_len, uint64_t *result, size_t result_len, uint64_t *work, size_t work_len,
-                                       const uint64_t *tape, size_t tape_len);
-lubewon_answer lubewon_nearest_shares(const uint64_t *x, size_t x_len, uint64_t *result, size_t result_len, uint64_t *work, size_t work_len,
+lubewon_answer lubewon_product_shares(const uint64_t *x, size_t x_len, const uint64_t *y, size_t y_len,
+                                      uint64_t *result, size_t result_len, uint64_t *work, size_t work_len,
                                       const uint64_t *tape, size_t tape_len);
+lubewon_answer lubewon_sum_shares(const uint64_t *x, size_t x_len, const uint64_t *y, size_t y_len,
+                                  uint64_t *result, size_t result_len, uint64_t *work, size_t work_len,
+                                  const uint64_t *tape, size_t tape_len);
+lubewon_answer lubewon_floor_shares(const uint64_t *x, size_t x_len, uint64_t *result, size_t result_len,
+                                    uint64_t *work, size_t work_len, const uint64_t *tape, size_t tape_len);
+lubewon_answer lubewon_truncate_shares(const uint64_t *x, size_t x_len, uint64_t *result, size_t result_len,
+                                       uint64_t *work, size_t work_len, const uint64_t *tape,
+                                       size_t tape_len);
+lubewon_answer lubewon_nearest_shares(const uint64_t *x, size_t x_len, uint64_t *result, size_t result_len,
+                                      uint64_t *work, size_t work_len, const uint64_t *tape, size_t tape_len);
 
 /* The operations on n shares with the result in x, in place of the first operand: an accumulator needs no
  * second array. Here all terms are added to sum, over a tape of terms * LUBEWON_SUM_TAPE(3) words. sum
@@ -202,13 +207,17 @@ lubewon_answer lubewon_nearest_shares(const uint64_t *x, size_t x_len, uint64_t 
  * tape are only read. x is written, so y, work and tape must not overlap it. A square needs a copy of x
  * as y; to replace the second operand exchange the two. A call that is interrupted and never resumed
  * leaves shares in work, and x in no state that is promised: wipe both. */
-lubewon_answer lubewon_product_in_place(uint64_t *x, size_t x_len, const uint64_t *y, size_t y_len, uint64_t *work, size_t work_len,
+lubewon_answer lubewon_product_in_place(uint64_t *x, size_t x_len, const uint64_t *y, size_t y_len,
+                                        uint64_t *work, size_t work_len, const uint64_t *tape,
+                                        size_t tape_len);
+lubewon_answer lubewon_sum_in_place(uint64_t *x, size_t x_len, const uint64_t *y, size_t y_len,
+                                    uint64_t *work, size_t work_len, const uint64_t *tape, size_t tape_len);
+lubewon_answer lubewon_floor_in_place(uint64_t *x, size_t x_len, uint64_t *work, size_t work_len,
+                                      const uint64_t *tape, size_t tape_len);
+lubewon_answer lubewon_truncate_in_place(uint64_t *x, size_t x_len, uint64_t *work, size_t work_len,
+                                         const uint64_t *tape, size_t tape_len);
+lubewon_answer lubewon_nearest_in_place(uint64_t *x, size_t x_len, uint64_t *work, size_t work_len,
                                         const uint64_t *tape, size_t tape_len);
-lubewon_answer lubewon_sum_in_place(uint64_t *x, size_t x_len, const uint64_t *y, size_t y_len, uint64_t *work, size_t work_len,
-                                    const uint64_t *tape, size_t tape_len);
-lubewon_answer lubewon_floor_in_place(uint64_t *x, size_t x_len, uint64_t *work, size_t work_len, const uint64_t *tape, size_t tape_len);
-lubewon_answer lubewon_truncate_in_place(uint64_t *x, size_t x_len, uint64_t *work, size_t work_len, const uint64_t *tape, size_t tape_len);
-lubewon_answer lubewon_nearest_in_place(uint64_t *x, size_t x_len, uint64_t *work, size_t work_len, const uint64_t *tape, size_t tape_len);
 
 /* The product of two complex numbers on n shares: x is a + bi, y is c + di. x, y and result have 2n
  * words: share i of the real part is word 2i, of the imaginary part word 2i + 1. A plain operand goes in
@@ -224,8 +233,10 @@ lubewon_answer lubewon_nearest_in_place(uint64_t *x, size_t x_len, uint64_t *wor
  * sign bit of share 0 flipped. Yet it is one call. The word of a single step says no more than one share
  * of each part of x and y does. That is proved of every step of the six calls' share programs, over the
  * whole tape. */
-lubewon_answer lubewon_complex_product_shares(size_t n, const uint64_t *x, size_t x_len, const uint64_t *y, size_t y_len, uint64_t *result,
-                                              size_t result_len, uint64_t *work, size_t work_len, const uint64_t *tape, size_t tape_len);
+lubewon_answer lubewon_complex_product_shares(size_t n, const uint64_t *x, size_t x_len, const uint64_t *y,
+                                              size_t y_len, uint64_t *result, size_t result_len,
+                                              uint64_t *work, size_t work_len, const uint64_t *tape,
+                                              size_t tape_len);
 
 /* One layer of a Fourier transform on n shares, over `count` complex numbers, here N, at `distance`, here
  * h. N is a power of two from 2 to LUBEWON_LAYER_MOST, h one from 1 to N/2. The numbers fall into N/(2h)
@@ -283,8 +294,9 @@ lubewon_answer lubewon_complex_product_shares(size_t n, const uint64_t *x, size_
  * one pair after another, by rising p. Copy each to 4n words and back, and call the layer on it with N =
  * 2, h = 1 and its factor. That takes 1,244 words at a time on two shares. The shares were the same over
  * the same tape words in every test. What is proved of secrecy is then proved of each pair by itself. */
-lubewon_answer lubewon_layer_shares(size_t n, size_t count, size_t distance, uint64_t *numbers, size_t numbers_len, const uint64_t *factors,
-                                    size_t factors_len, uint64_t *work, size_t work_len, const uint64_t *tape, size_t tape_len);
+lubewon_answer lubewon_layer_shares(size_t n, size_t count, size_t distance, uint64_t *numbers,
+                                    size_t numbers_len, const uint64_t *factors, size_t factors_len,
+                                    uint64_t *work, size_t work_len, const uint64_t *tape, size_t tape_len);
 
 /* The operations on plain words; never turned down. E = 0 reads as a zero of the word's sign, whatever F.
  * Otherwise the number is (2^52 + F) times 2^(E - 1075), E = 2047 included: there are no infinities, no
@@ -315,7 +327,8 @@ uint64_t lubewon_nearest(uint64_t a);
  * product of a + bi and c + di is never turned down. The layer's numbers are 2N words, N real parts and
  * then N imaginary ones, changed in place; factors as above. Turn-downs 7, 4, in this order. No counts. */
 lubewon_complex lubewon_complex_product(uint64_t a, uint64_t b, uint64_t c, uint64_t d);
-lubewon_answer lubewon_layer(size_t count, size_t distance, uint64_t *numbers, size_t numbers_len, const uint64_t *factors, size_t factors_len);
+lubewon_answer lubewon_layer(size_t count, size_t distance, uint64_t *numbers, size_t numbers_len,
+                             const uint64_t *factors, size_t factors_len);
 
 /* The built-in plans, copied to the front of out: operands in registers 0 and 1, a single one in 0,
  * result in 2. Turn-down 4 where out is too short; out stays as it is past the plan's end. words counts
@@ -329,7 +342,8 @@ lubewon_answer lubewon_copy_nearest_plan(uint32_t *out, size_t out_len);
 /* A word split into out_len shares: shares 1 and up are the tape's words in order, share 0 the rest.
  * Turn-downs 1, and 6 below out_len - 1 tape words, which is how many it uses. No counts: the answer's
  * tape is 0 all the same. */
-lubewon_answer lubewon_split(uint64_t word, const uint64_t *tape, size_t tape_len, uint64_t *out, size_t out_len);
+lubewon_answer lubewon_split(uint64_t word, const uint64_t *tape, size_t tape_len, uint64_t *out,
+                             size_t out_len);
 
 /* The word that shares join to, 0 when turned down. Turn-down 1. No counts. */
 lubewon_joined lubewon_join(const uint64_t *shares, size_t shares_len);
