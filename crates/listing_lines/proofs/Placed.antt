@@ -1,5 +1,5 @@
 -- Writing in parts: of a text to write at a place, parts are written one after the other until none is left; and a text written whole at
--- the front of a slice. Rests on shares' law of stores in a row.
+-- the front of a slice. Rests on checks' law of stores in a row (Slices).
 use mathlib.Core.Path.{_≡_, refl, sym, ap, ap₂, _∙_}
 use mathlib.Core.Bool.{Bool, true, false}
 use mathlib.Core.List.{List, [], _∷_, _++_, append-assoc}
@@ -15,7 +15,7 @@ use Rattle.checks.specs.Answers.{keptUnless}
 use Rattle.checks.proofs.Slices.{sets-append}
 use Rattle.listing_lines.specs.Writing.{fitting, Wrote, Appends}
 
--- `listing_lines` to write at `at` of `out` has come to `rest` to write at `at'` of `out'`
+-- `text` to write at `at` of `out` has come to `rest` to write at `at'` of `out'`
 pub record Left (text out : List ℕ) (at : ℕ) (rest out' : List ℕ) (at' : ℕ) : Type 0 where
   pub same : sets out at text ≡ sets out' at' rest
   pub ends : at + length text ≡ at' + length rest
