@@ -9,6 +9,7 @@ use crate::reader::at;
 use crate::reader::next_word;
 use word::step::Decoded;
 use word::step_word::StepWord;
+use word_steps::plan_step;
 
 // Whether what a reader found is a good word of a plan: the plan's end, and a bad word, are answered first.
 pub fn is_good(found: Read) -> bool
@@ -17,7 +18,7 @@ pub fn is_good(found: Read) -> bool
     let Read::Word(w) = found else {
         return false;
     };
-    let Decoded::Good(_) = StepWord::of(w).plan_step() else {
+    let Decoded::Good(_) = plan_step(StepWord::of(w)) else {
         return false;
     };
     true

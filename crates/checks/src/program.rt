@@ -5,6 +5,7 @@ ghost use Rattle.word.specs.Encoding.{programStep};
 use crate::answer::Answer;
 use word::step::Decoded;
 use word::step_word::StepWord;
+use word_steps::program_step;
 
 // The place of the share program's first bad word, or the program's end where no word is bad.
 pub fn program_first_bad(program: &[u32]) -> usize
@@ -15,7 +16,7 @@ pub fn program_first_bad(program: &[u32]) -> usize
         if program.len() <= i {
             break i;
         }
-        let Decoded::Good(_) = StepWord::of(program[i]).program_step() else {
+        let Decoded::Good(_) = program_step(StepWord::of(program[i])) else {
             break i;
         };
         i += 1;

@@ -8,8 +8,8 @@ use crate::calls::finish;
 use checks::answer::Answer;
 use masked_call::one_operand::NONE;
 use masked_call::one_operand::at_most_eight;
-use masked_call::operation::end;
 use masked_call::operation::operation_answer;
+use masked_work::end;
 
 // The same, with x for the result slice.
 fn call(x: &mut [u64], y: &[u64], work: &mut [u64], tape: &[u64]) -> Answer

@@ -10,9 +10,9 @@ use crate::done;
 use checks::answer::Answer;
 use masked_call::one_operand::NONE;
 use masked_call::one_operand::at_most_eight;
-use masked_call::operation::end;
 use masked_call::operation::operation_answer;
-use masked_call::work::place;
+use masked_work::end;
+use masked_work::place;
 
 // The plan's tape words, in units of n(n-1).
 pub const UNITS: usize = 14;

@@ -8,9 +8,9 @@ ghost use Rattle.compiled_order.specs.Plan.{orderPlan};
 ghost use Rattle.masked_call.specs.Shares.{callAnswer, resultAfter, resultShares, sharesOf, workAfter};
 use crate::done;
 use checks::answer::Answer;
-use masked_call::operation::end;
 use masked_call::operation::operation_answer;
-use masked_call::work::place;
+use masked_work::end;
+use masked_work::place;
 
 // The plan's tape words, in units of n(n-1).
 pub const UNITS: usize = 25;

@@ -6,8 +6,8 @@ ghost use Rattle.masked_call.specs.Shares.{callAnswer, resultAfter, workAfter};
 use crate::calls::UNITS;
 use crate::calls::finish;
 use checks::answer::Answer;
-use masked_call::operation::end;
 use masked_call::operation::operation_answer;
+use masked_work::end;
 
 // The same, with x for the result slice.
 pub fn call(x: &mut [u64], y: &[u64], work: &mut [u64], tape: &[u64]) -> Answer

@@ -3,7 +3,7 @@ ghost use mathlib.Core.List.{[], _∷_};
 ghost use Prim.Native.Nat.{_+_, _-_, _≤_, _<_};
 ghost use lib.ListN.{length};
 ghost use Rattle.emission_rows.specs.inner.Written.{EachFits, Rises, Words, eachWord, rowOf};
-use word::step_rule::put;
+use word::parts::put;
 
 // Where the shares of a register, a helper or a scratch cell lie: share i's cell is first + over * i. A field that is no cell stays as it is.
 pub struct Cells {

@@ -6,7 +6,7 @@ ghost use lib.ListN.{length, replicate};
 ghost use Rattle.fft_numbers.specs.Calls.{layerShares, layerTape};
 ghost use Rattle.fft_numbers.specs.Layer.{blockCount, isLayer};
 use fft_pair::pair;
-use masked_call::work::clear;
+use masked_work::clear;
 use word::step_word::StepWord;
 
 // All pairs, each with its block's factor; the work slice is zeros at the start.

@@ -15,7 +15,7 @@ use fft_slots::HELD;
 use fft_slots::IM;
 use fft_slots::RE;
 use fft_slots::SLOTS;
-use masked_call::work::clear;
+use masked_work::clear;
 use word::step_word::StepWord;
 
 // Zeros, with the parts of x and y in slots.

@@ -1,11 +1,8 @@
-// The parts of a call over any plan: its answer, by the plan's tape words, and its end.
+// The answer of a call over any plan, by the plan's tape words.
 ghost use mathlib.Core.Path.{_≡_};
 ghost use Prim.Native.Nat.{_-_, _*_, _≤_};
-ghost use lib.ListN.{length, replicate};
 ghost use Rattle.word.specs.Layout.{planMax};
-ghost use Rattle.masked_call.specs.Shares.{answerFor, sharesOf};
-use crate::work::clear;
-use crate::work::copy_out;
+ghost use Rattle.masked_call.specs.Shares.{answerFor};
 use checks::answer::Answer;
 use checks::share_count::is_share_count;
 use word::step_word::StepWord;
@@ -39,13 +36,4 @@ pub fn operation_answer(
         return Answer::refused(6);
     }
     Answer::done(0, needed)
-}
-
-// The result copied out, and zeros again.
-pub fn end(work: &mut [u64], result: &mut [u64])
-    requires { ⌜ (length (now result) ≤ 8) × (length (now work) ≡ 512) ⌝ }
-    ensures { λ _. ⌜ (now (result .exit) ≡ sharesOf (length (now (result .entry))) 2 (now (work .entry))) × (now (work .exit) ≡ replicate (length (now (work .entry))) 0) ⌝ }
-{
-    copy_out(work, result);
-    clear(work, StepWord::REGISTERS * result.len());
 }

@@ -4,16 +4,15 @@ ghost use lib.ListN.{length};
 ghost use Rattle.word.specs.Encoding.{planStep};
 ghost use Rattle.plain.specs.Machine as machine;
 ghost use Rattle.plain.specs.Call.{plainAnswer, plainCells};
-use crate::table::becomes;
-use crate::table::dest;
-use crate::table::write;
 use checks::answer::Answer;
 use checks::plan::check_plan;
+use plain_table::becomes;
+use plain_table::dest;
+use plain_table::write;
 use word::step::Decoded;
 use word::step::Step;
 use word::step_word::StepWord;
-
-pub mod table;
+use word_steps::plan_step;
 
 // One step: cell d becomes what the table says.
 fn stepped(s: Step, cells: &mut [u64])
@@ -27,7 +26,7 @@ fn stepped(s: Step, cells: &mut [u64])
 fn word_done(w: u32, cells: &mut [u64])
     ensures { λ _. ⌜ now (cells .exit) ≡ machine.after (planStep w) (now (cells .entry)) ⌝ }
 {
-    let Decoded::Good(s) = StepWord::of(w).plan_step() else {
+    let Decoded::Good(s) = plan_step(StepWord::of(w)) else {
         return;
     };
     stepped(s, cells);

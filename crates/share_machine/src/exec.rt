@@ -10,6 +10,7 @@ ghost use Rattle.masking.specs.Machine as machine;
 use word::step::Decoded;
 use word::step::Step;
 use word::step_word::StepWord;
+use word_steps::program_step;
 
 // One step of a share program on 512 cells, over a tape that has a word for it where it is RAND; the answer is the next tape word's place. A
 // share program has no ADD.
@@ -64,7 +65,7 @@ fn word_done(w: u32, tape: &[u64], t: usize, cells: &mut [u64]) -> usize
     ensures place { λ r. ⌜ r ≡ t + machine.rands (w ∷ []) ⌝ }
     ensures cells { λ _. ⌜ now (cells .exit) ≡ machine.exec (w ∷ []) (drop t (now (tape .entry))) (now (cells .entry)) ⌝ }
 {
-    let Decoded::Good(s) = StepWord::of(w).program_step() else {
+    let Decoded::Good(s) = program_step(StepWord::of(w)) else {
         return t;
     };
     step_done(s, tape, t, cells)

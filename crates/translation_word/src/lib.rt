@@ -16,6 +16,7 @@ use emission_rows::row;
 use word::step::Decoded;
 use word::step::Step;
 use word::step_word::StepWord;
+use word_steps::plan_step;
 
 // What the next share's word is more: a share's cells in field d, in d and a, and in all three.
 const D: u32 = (StepWord::SHARE as u32) * StepWord::NUMBERS;
@@ -75,7 +76,7 @@ pub fn plan_word(n: u8, w: u32, out: &mut [u32]) -> usize
     requires { ⌜ length (wordsFor n (planStep w)) ≤ length (now out) ⌝ }
     ensures { λ r. ⌜ Words (now (out .entry)) 0 (wordsFor n (planStep w)) (now (out .exit)) r ⌝ }
 {
-    let Decoded::Good(step) = StepWord::of(w).plan_step() else {
+    let Decoded::Good(step) = plan_step(StepWord::of(w)) else {
         return 0;
     };
     match step {

@@ -1,5 +1,5 @@
-// Step words, as document 01's section "Step words" has them: taking apart, putting together, and the facts of the word's own type.
+// Step words, as document 01's section "Step words" has them: fields, putting together, and the facts of the word's own type.
 // `specs/` has the definitions that the contracts cite.
+pub mod parts;
 pub mod step;
-pub mod step_rule;
 pub mod step_word;

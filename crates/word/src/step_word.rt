@@ -1,12 +1,10 @@
-// The step word's own type: its bit places, the cells and limits that go with it, and taking it apart.
+// The step word's own type: its bit places, the cells and limits that go with it, and its fields.
 ghost use mathlib.Core.Path.{_≡_};
 ghost use Rattle.word.specs.Encoding as spec;
-ghost use Rattle.word.specs.Encoding.{kindOf, bit27, fieldD, fieldA, fieldB, planStep, programStep};
+ghost use Rattle.word.specs.Encoding.{kindOf, bit27, fieldD, fieldA, fieldB};
 ghost use Rattle.word.specs.Layout as layout;
+use crate::parts::row;
 use crate::step::Decoded;
-use crate::step_rule::in_plan;
-use crate::step_rule::in_program;
-use crate::step_rule::row;
 
 pub struct StepWord {
     pub bits: u32,
@@ -128,37 +126,6 @@ impl StepWord {
     {
         if self.zero_bit() == 0 {
             row(self.kind(), self.d(), self.a(), self.b())
-        } else {
-            Decoded::Bad
-        }
-    }
-
-    // The step of a plan's word, or Bad. Every kind has a cell d, so a d that is no register is enough for Bad.
-    pub fn plan_step(self) -> Decoded
-        ensures { λ r. ⌜ r ≡ planStep (self .bits) ⌝ }
-    {
-        if StepWord::REGISTERS <= self.d() {
-            return Decoded::Bad;
-        }
-        let Decoded::Good(step) = self.named() else {
-            return Decoded::Bad;
-        };
-        if in_plan(step) {
-            Decoded::Good(step)
-        } else {
-            Decoded::Bad
-        }
-    }
-
-    // The step of a share program's word, or Bad.
-    pub fn program_step(self) -> Decoded
-        ensures { λ r. ⌜ r ≡ programStep (self .bits) ⌝ }
-    {
-        let Decoded::Good(step) = self.named() else {
-            return Decoded::Bad;
-        };
-        if in_program(step) {
-            Decoded::Good(step)
         } else {
             Decoded::Bad
         }
