@@ -4,13 +4,17 @@
 #include <stdbool.h>
 #include <string.h>
 
-enum { CONST = 1, XOR, AND, NOT, SHL, SHR, SPREAD, ADD, RAND };
+enum { CONST = 1, XOR, AND, NOT, SHL, SHR, SPREAD, ADD, RAND, HEAD };
 enum { Y = 256, Z = 264, T = 272, U = 273, HELPERS = 288, CELLS = 512 };
 
 static unsigned kind_of(uint32_t word) { return word >> 28; }
 static unsigned d_of(uint32_t word) { return word >> 18 & 511; }
 static unsigned a_of(uint32_t word) { return word >> 9 & 511; }
 static unsigned b_of(uint32_t word) { return word & 511; }
+
+static uint32_t word_of(unsigned kind, size_t d, size_t a, size_t b) {
+    return (uint32_t)kind << 28 | (uint32_t)d << 18 | (uint32_t)a << 9 | (uint32_t)b;
+}
 
 static lubewon_answer done(size_t words, size_t tape) { return (lubewon_answer){0, 0, words, tape}; }
 static lubewon_answer refused(uint32_t number, size_t place) { return (lubewon_answer){number, place, 0, 0}; }
@@ -45,33 +49,42 @@ static bool good(const rules *r, uint32_t word) {
     return (r->kinds >> kind_of(word) & 1) && (word & r->zero[kind_of(word)]) == 0;
 }
 
-lubewon_answer base_share_run(const uint32_t *program, size_t program_len, size_t place, const uint64_t *tape, size_t tape_len,
+/* Checked words that are no head, one after another. A function of its own: its caller has too few registers left, and the loop, put into it,
+ * would read from the stack for each word. */
+__attribute__((noinline))
+static void run_words(const uint32_t *words, size_t count, const uint64_t *next, uint64_t *cells) {
+    for (size_t i = 0; i < count; i++) {
+        uint32_t word = words[i];
+        uint64_t a = cells[a_of(word)];
+        switch (kind_of(word)) {
+        case CONST: a = word & 0x3FFFF; break;
+        case XOR: a ^= cells[b_of(word)]; break;
+        case AND: a &= cells[b_of(word)]; break;
+        case NOT: a = ~a; break;
+        case SHL: a <<= b_of(word); break;
+        case SHR: a >>= b_of(word); break;
+        case SPREAD: a = -(a & 1); break;
+        default: a = *next++; break;
+        }
+        cells[d_of(word)] = a;
+    }
+}
+
+/* The head is looked at before the loops, and stepped over where it is one of the words to be done. */
+lubewon_answer base_share_run(size_t n, const uint32_t *program, size_t program_len, size_t place, const uint64_t *tape, size_t tape_len,
                               size_t tape_place, size_t budget, uint64_t *cells, size_t cells_len) {
-    if (program_len > 8257536) return refused(2, 0);
-    for (size_t i = 0; i < program_len; i++)
+    if (n < 2 || n > 8) return refused(1, 0);
+    if (program_len > 8257537) return refused(2, 0);
+    if (program_len == 0 || program[0] != word_of(HEAD, n, 0, 0)) return refused(8, 0);
+    for (size_t i = 1; i < program_len; i++)
         if (!good(&share_rules, program[i])) return refused(3, i);
     if (cells_len != CELLS) return refused(4, 0);
     if (place > program_len || tape_place > tape_len) return refused(5, 0);
-    size_t left = program_len - place, count = budget < left ? budget : left, rands = 0;
+    size_t left = program_len - place, count = budget < left ? budget : left, head = place == 0 && count > 0, rands = 0;
     const uint32_t *words = program + place;
-    for (size_t i = 0; i < count; i++) rands += kind_of(words[i]) == RAND;
+    for (size_t i = head; i < count; i++) rands += kind_of(words[i]) == RAND;
     if (rands > tape_len - tape_place) return refused(6, 0);
-
-    const uint64_t *next = tape + tape_place;
-    for (size_t i = 0; i < count; i++) {
-        uint32_t word = words[i];
-        uint64_t a = cells[a_of(word)], *d = &cells[d_of(word)];
-        switch (kind_of(word)) {
-        case CONST: *d = word & 0x3FFFF; break;
-        case XOR: *d = a ^ cells[b_of(word)]; break;
-        case AND: *d = a & cells[b_of(word)]; break;
-        case NOT: *d = ~a; break;
-        case SHL: *d = a << b_of(word); break;
-        case SHR: *d = a >> b_of(word); break;
-        case SPREAD: *d = -(a & 1); break;
-        default: *d = *next++; break;
-        }
-    }
+    run_words(words + head, count - head, tape + tape_place, cells);
     return done(count, rands);
 }
 
@@ -275,10 +288,6 @@ uint64_t base_nearest(uint64_t a) {
 
 /* ---- (d) Translator ---- */
 
-static uint32_t word_of(unsigned kind, size_t d, size_t a, size_t b) {
-    return (uint32_t)kind << 28 | (uint32_t)d << 18 | (uint32_t)a << 9 | (uint32_t)b;
-}
-
 /* Share i of a register or a helper is cell first + step * i. */
 typedef struct {
     size_t first, step;
@@ -355,13 +364,14 @@ static uint32_t *write_not(uint32_t *out, size_t n, cells_of d, cells_of a) {
 lubewon_answer base_translate(size_t n, const uint32_t *plan, size_t plan_len, uint32_t *out, size_t out_len) {
     if (n < 2 || n > 8) return refused(1, 0);
     if (plan_len > 2048) return refused(2, 0);
-    size_t words = 0, tape = 0;
+    size_t words = 1, tape = 0;
     for (size_t i = 0; i < plan_len; i++) {
         if (!good(&plan_rules, plan[i])) return refused(3, i);
         words += share_words(n, plan[i]);
         tape += tape_words(n, plan[i]);
     }
     if (out_len < words) return refused(4, 0);
+    *out++ = word_of(HEAD, n, 0, 0);
     for (size_t i = 0; i < plan_len; i++) {
         uint32_t word = plan[i];
         cells_of d = {d_of(word), 32}, a = {a_of(word), 32}, b = {b_of(word), 32};

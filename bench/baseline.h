@@ -5,8 +5,8 @@
 
 #include "lubewon.h"
 
-/* (a) An interpreter of share programs: checks the whole program, counts the RANDs of the run, runs. */
-lubewon_answer base_share_run(const uint32_t *program, size_t program_len, size_t place, const uint64_t *tape, size_t tape_len,
+/* (a) An interpreter of share programs: checks the head and the whole program, counts the RANDs of the run, runs. */
+lubewon_answer base_share_run(size_t n, const uint32_t *program, size_t program_len, size_t place, const uint64_t *tape, size_t tape_len,
                               size_t tape_place, size_t budget, uint64_t *cells, size_t cells_len);
 
 /* A baseline's operation on n shares: y is not read where there is one operand, work has 512 words and is zero afterwards. */
@@ -27,7 +27,7 @@ uint64_t base_floor(uint64_t a);
 uint64_t base_truncate(uint64_t a);
 uint64_t base_nearest(uint64_t a);
 
-/* (d) A translator. */
+/* (d) A translator: the head, then the words. */
 lubewon_answer base_translate(size_t n, const uint32_t *plan, size_t plan_len, uint32_t *out, size_t out_len);
 
 #endif

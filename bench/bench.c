@@ -106,8 +106,8 @@ operation operations[OPERATIONS] = {ENTRY(product), ENTRY(sum), ENTRY(floor), EN
 
 const base_calls baselines[BASELINES] = {[GADGETS] = {product_gadgets, sum_gadgets}, [STRAIGHT] = {straight_product, straight_sum}};
 
-static void run_library(void) { lubewon_share_run(program, program_len, 0, tape, TAPE, 0, program_len, cells, 512); }
-static void run_base(void) { base_share_run(program, program_len, 0, tape, TAPE, 0, program_len, cells, 512); }
+static void run_library(void) { lubewon_share_run(n, program, program_len, 0, tape, TAPE, 0, program_len, cells, 512); }
+static void run_base(void) { base_share_run(n, program, program_len, 0, tape, TAPE, 0, program_len, cells, 512); }
 static void translate_library(void) { lubewon_translate(n, operations[PRODUCT].plan, operations[PRODUCT].plan_len, written, PROGRAM); }
 static void translate_base(void) { base_translate(n, operations[PRODUCT].plan, operations[PRODUCT].plan_len, written, PROGRAM); }
 

@@ -15,6 +15,13 @@ static bool same_answer(lubewon_answer p, lubewon_answer q) {
     return p.number == q.number && p.place == q.place && p.words == q.words && p.tape == q.tape;
 }
 
+/* The first words of `program`, from its head on. */
+static void same_run(size_t told, size_t words, size_t budget, uint64_t *one, uint64_t *other) {
+    same(same_answer(lubewon_share_run(told, program, words, 0, tape, TAPE, 0, budget, one, 512),
+                     base_share_run(told, program, words, 0, tape, TAPE, 0, budget, other, 512)),
+         "share run's answer");
+}
+
 static void check_plan(const uint32_t *plan, size_t plan_len) {
     static uint64_t start[512], one[512], other[512];
     for (size_t i = 0; i < 512; i++) start[i] = random_word();
@@ -23,19 +30,18 @@ static void check_plan(const uint32_t *plan, size_t plan_len) {
     same(memcmp(program, written, t.words * sizeof *program) == 0, "translated words");
 
     memcpy(one, start, sizeof one), memcpy(other, start, sizeof other);
-    same(same_answer(lubewon_share_run(program, t.words, 0, tape, TAPE, 0, t.words, one, 512),
-                     base_share_run(program, t.words, 0, tape, TAPE, 0, t.words, other, 512)),
-         "share run's answer");
+    same_run(n, t.words, t.words, one, other);
     same(memcmp(one, other, sizeof one) == 0, "share run's cells");
     memcpy(other, start, sizeof other);
     same(base_plan_on_shares(n, plan, plan_len, tape, other) == t.tape, "tape words of the gadgets");
     same(memcmp(one, other, sizeof one) == 0, "the gadgets' cells");
 
-    if (t.words == 0) return;
-    program[t.words - 1] = 0; /* a bad last word */
-    same(same_answer(lubewon_share_run(program, t.words, 0, tape, TAPE, 0, 1, one, 512),
-                     base_share_run(program, t.words, 0, tape, TAPE, 0, 1, one, 512)),
-         "a share run turned down");
+    same_run(n, t.words, 1, one, other); /* just the head; every count told; no program; a bad last word */
+    for (size_t told = 0; told < 10; told++) same_run(told, t.words, told == n ? 0 : t.words, one, other);
+    same_run(n, 0, 1, one, other);
+    program[t.words - 1] = 0;
+    same_run(n, t.words, 1, one, other);
+    same(memcmp(one, other, sizeof one) == 0, "cells after runs that do nothing");
 }
 
 /* A baseline's shares, tape words and wiped work; a tape that is a word short is turned down. */
@@ -118,6 +124,7 @@ static void check_on_shares(void) {
         for (size_t i = 0; i < 12; i++) plan[i] = random_plan_word();
         check_plan(plan, 12);
     }
+    check_plan(plan, 0);
     for (const operation *op = operations; op < operations + OPERATIONS; op++) check_plan(op->plan, op->plan_len);
     for (size_t i = 0; i < PAIRS; i++) { /* every second pair any words */
         uint64_t p = i % 2 ? random_word() : a[i], q = i % 2 ? random_word() : b[i];

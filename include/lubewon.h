@@ -8,12 +8,14 @@
  *
  * ANSWERS. Every call answers every input whose slices are as SLICES below asks: nothing turns a NULL
  * pointer or an overlap down. `number` is 0 for done, else that of the turn-down, the first of these,
- * from the top, that applies. (7 stands where it is looked at.)
+ * from the top, that applies. (7 and 8 stand where they are looked at.)
  *
  *   1  LUBEWON_SHARE_COUNT   share count not 2..8
  *   7  LUBEWON_WRONG_SIZE    a layer's count or distance is not a power of two,
  *                            its count not 2..1,024, or its distance not below the count
- *   2  LUBEWON_TOO_LONG      plan longer than 2,048 words, or share program longer than 8,257,536
+ *   2  LUBEWON_TOO_LONG      plan longer than 2,048 words, share program longer than 8,257,537,
+ *                            or stored program without its head longer than 8,257,536
+ *   8  LUBEWON_WRONG_HEAD    a run's program is empty, or its first word is no head with the reader's count
  *   3  LUBEWON_BAD_WORD      a bad word; `place` is the first one's, from 0
  *   4  LUBEWON_WRONG_LENGTH  a slice of wrong length
  *   5  LUBEWON_PAST_END      place past the end of program or tape (equal to its length is not past it)
@@ -55,19 +57,23 @@
  * a processor's multiplication takes time by its operands, that tells of a share. For what a register's
  * change may tell on 2 shares see docs/LEAKAGE.md: prefer 3 or more.
  *
- * STEP WORDS. Bits 31..28 kind, bit 27 zero, bits 26..18 d, 17..9 a, 8..0 b. Each sets cell d:
+ * STEP WORDS. Bits 31..28 kind, bit 27 zero, bits 26..18 d, 17..9 a, 8..0 b. Each but HEAD sets cell d:
  *
- *   1 CONST   512 a + b, a number here            5 SHL     a shifted left by b, b a number 0..63
- *   2 XOR     a exclusive-or b                    6 SHR     a shifted right by b, likewise
- *   3 AND     a and b                             7 SPREAD  64 copies of a's lowest bit; b = 0
- *   4 NOT     all bits of a inverted; b = 0       8 ADD     a + b modulo 2^64
- *                                                 9 RAND    the next tape word; a = b = 0
+ *   1 CONST   512 a + b, a number here            6 SHR     a shifted right by b, likewise
+ *   2 XOR     a exclusive-or b                    7 SPREAD  64 copies of a's lowest bit; b = 0
+ *   3 AND     a and b                             8 ADD     a + b modulo 2^64
+ *   4 NOT     all bits of a inverted; b = 0       9 RAND    the next tape word; a = b = 0
+ *   5 SHL     a shifted left by b,               10 HEAD    a share program's first word: d is its
+ *             b a number 0..63                              share count, a = b = 0; sets no cell
  *
- * A plan has words of kinds 1 to 8 on registers 0..31. A share program has words of kinds 1 to 7 and 9 on
- * cells 0..511. Every other word is bad. Share i of register r is cell 32 i + r. Cells from 256 on are
- * the translation's own. For n shares AND works in 256 + i, 264 + i, 272 and 273, and leaves them zero.
- * ADD has helpers in 288 + 8 i + h, h = 0..3, and leaves shares there. docs/PLANS.md shows how to write a
- * plan.
+ * The plan 20080001, XOR 2 0 1, is on two shares the program A0080000, 20080001, 20884021.
+ *
+ * A plan has words of kinds 1 to 8 on registers 0..31. A share program for n shares is the word
+ * LUBEWON_HEAD(n), and behind it words of kinds 1 to 7 and 9 on cells 0..511. Every other word is bad, and
+ * so is a head behind the first place. A run answers a wrong first word with 8, never with 3. Share i of
+ * register r is cell 32 i + r. Cells from 256 on are the translation's own. For n shares AND works in
+ * 256 + i, 264 + i, 272 and 273, and leaves them zero. ADD has helpers in 288 + 8 i + h, h = 0..3, and
+ * leaves shares there. docs/PLANS.md shows how to write a plan.
  */
 #ifndef LUBEWON_H
 #define LUBEWON_H
@@ -80,8 +86,8 @@ extern "C" {
 #endif
 
 /* The number grows by one with every change of the calls. */
-#define LUBEWON_VERSION "0.14"
-#define LUBEWON_VERSION_NUMBER 14
+#define LUBEWON_VERSION "0.15"
+#define LUBEWON_VERSION_NUMBER 15
 
 /* Turn-downs. */
 enum {
@@ -92,7 +98,8 @@ enum {
     LUBEWON_WRONG_LENGTH = 4,
     LUBEWON_PAST_END = 5,
     LUBEWON_TAPE_SHORT = 6,
-    LUBEWON_WRONG_SIZE = 7
+    LUBEWON_WRONG_SIZE = 7,
+    LUBEWON_WRONG_HEAD = 8
 };
 
 /* Limits and sizes. */
@@ -102,11 +109,15 @@ enum {
 #define LUBEWON_CELLS 512
 #define LUBEWON_WORK 512
 #define LUBEWON_PLAN_MAX 2048
-#define LUBEWON_PROGRAM_MAX 8257536
+#define LUBEWON_PROGRAM_MAX 8257537 /* a share program, its head included */
+#define LUBEWON_STORED_MAX 8257536  /* a stored program without its head */
 #define LUBEWON_LAYER_MOST 1024
 
 /* The cell of share i of register r. */
 #define LUBEWON_CELL(i, r) (32 * (i) + (r))
+
+/* The head of a share program for n shares. */
+#define LUBEWON_HEAD(n) (0xA0000000u | (uint32_t)(n) << 18)
 
 /* The words of the built-in plans, and the tape words that an operation takes on n shares. Later versions
  * may change these figures. Product, sum and floor stay within 1,000, 600 and 400 times n(n - 1). */
@@ -145,28 +156,55 @@ typedef struct {
     uint64_t im;
 } lubewon_complex;
 
-/* Share words and tape words of a plan for n shares. Turn-downs 1, 2, 3. */
+/* Share words and tape words of a plan for n shares. The head is one of the words, the only one of an
+ * empty plan. Turn-downs 1, 2, 3. */
 lubewon_answer lubewon_measure(size_t n, const uint32_t *plan, size_t plan_len);
 
-/* The share program of a plan for n shares, at the front of out; out stays as it is past the program's
- * end. Turn-downs 1 to 4: 4 where out is shorter than measured. Counts are Measure's. A program stored by
- * a version before 0.12 still runs, but leaves AND's cells unwiped: translate its plan anew. */
+/* The share program of a plan for n shares, its head first, at the front of out; out stays as it is past
+ * the program's end. Turn-downs 1 to 4: 4 where out is shorter than measured. Counts are Measure's. */
 lubewon_answer lubewon_translate(size_t n, const uint32_t *plan, size_t plan_len, uint32_t *out,
                                  size_t out_len);
+
+/* A stored program that has no head, with the head of n shares put before it. Versions before 0.15 wrote
+ * programs without one, and a run turns those down with 8. This one is for two shares:
+ *
+ *   const uint32_t stored[2] = {0x20080001, 0x20884021};
+ *   uint32_t out[3];
+ *   lubewon_answer a = lubewon_add_head(2, stored, 2, out, 3);
+ *
+ * Now out is A0080000, 20080001, 20884021. words is stored_len + 1, here 3, and tape the number of RANDs.
+ * out stays as it is past the program's end, and must not overlap stored. n is the count that the program
+ * was translated for. You have to know it: nothing in the stored words is compared with it. Turn-downs:
+ * 1; 2 where stored is longer than LUBEWON_STORED_MAX; 3; 4 where out is shorter than stored_len + 1.
+ * `place` is that in stored, where a head is bad too, the first word included.
+ *
+ * The words themselves stay as they are. A program from before 0.12 still leaves AND's cells unwiped:
+ * translate its plan anew. What is proved of results and secrecy holds of a converted program where it is
+ * what lubewon_translate writes for n. */
+lubewon_answer lubewon_add_head(size_t n, const uint32_t *stored, size_t stored_len, uint32_t *out,
+                                size_t out_len);
 
 /* A plan on exactly 32 plain cells, its registers. Turn-downs 2, 3, 4. No counts. */
 lubewon_answer lubewon_plain_run(const uint32_t *plan, size_t plan_len, uint64_t *cells, size_t cells_len);
 
-/* A share program from place on, over a tape from tape_place on, on exactly 512 cells. It does the
- * smaller of budget and words left. words counts the words done, tape the tape words used: go on from
- * place + words and tape_place + tape. Turn-downs 2 to 6: 6 where those words hold more RAND than tape
- * remains. The whole program is checked first, each time. The cells keep shares afterwards, and inside an
- * AND or ADD masks too: wipe all 512 when done, or when a run is given up. */
-lubewon_answer lubewon_share_run(const uint32_t *program, size_t program_len, size_t place,
+/* A share program from place on, over a tape from tape_place on, on exactly 512 cells.
+ *
+ * n IS NEW, from version 0.15 on, and the first parameter: the share count that the reader keeps. A
+ * program for three shares is turned down with 8 where the reader keeps four. So is a stored program from
+ * before 0.15, which has no head: lubewon_add_head puts it there.
+ *
+ * A run does the smaller of budget and words left. words counts the words done, tape the tape words used:
+ * go on from place + words and tape_place + tape. The head is the word at place 0: done there it counts as
+ * one word, uses no tape and changes no cell. Turn-downs 1, 2, 8 and 3 to 6, looked at in this order: 6
+ * where those words hold more RAND than tape remains. The head and the whole program are checked first,
+ * each time, from whatever place the run goes. The cells keep shares afterwards, and inside an AND or ADD
+ * masks too: wipe all 512 when done, or when a run is given up. */
+lubewon_answer lubewon_share_run(size_t n, const uint32_t *program, size_t program_len, size_t place,
                                  const uint64_t *tape, size_t tape_len, size_t tape_place, size_t budget,
                                  uint64_t *cells, size_t cells_len);
 
-/* One word of a share program, likewise. Turn-downs 3 to 6. */
+/* One word of a share program, likewise. No count is told: a head with any count from 2 to 8 is no bad
+ * word. Done, it counts words 1 and tape 0 and changes no cell. Turn-downs 3 to 6. */
 lubewon_answer lubewon_one_share_step(uint32_t word, const uint64_t *tape, size_t tape_len, size_t tape_place,
                                       uint64_t *cells, size_t cells_len);
 

@@ -27,6 +27,15 @@ lubewon_answer try_translate(uint32_t number, size_t n, const uint32_t *plan, si
     return got;
 }
 
+lubewon_answer try_add_head(uint32_t number, size_t n, const uint32_t *stored, size_t stored_len, uint32_t *out, size_t out_len) {
+    lent s = lend32(stored, stored_len), o = lend32(out, out_len);
+    lubewon_answer got = lubewon_add_head(n, ours(s), stored_len, ours(o), out_len);
+    agree("add head", number, got, ref_add_head(n, theirs(s), stored_len, theirs(o), out_len));
+    take_back("add head", "stored", s, NULL);
+    take_back("add head", "out", o, out);
+    return got;
+}
+
 lubewon_answer try_plain_run(uint32_t number, const uint32_t *plan, size_t plan_len, uint64_t *cells, size_t cells_len) {
     lent p = lend32(plan, plan_len), c = lend64(cells, cells_len);
     lubewon_answer got = lubewon_plain_run(ours(p), plan_len, ours(c), cells_len);
@@ -36,12 +45,12 @@ lubewon_answer try_plain_run(uint32_t number, const uint32_t *plan, size_t plan_
     return got;
 }
 
-lubewon_answer try_share_run(uint32_t number, const uint32_t *program, size_t program_len, size_t place, const uint64_t *tape,
+lubewon_answer try_share_run(uint32_t number, size_t n, const uint32_t *program, size_t program_len, size_t place, const uint64_t *tape,
                              size_t tape_len, size_t tape_place, size_t budget, uint64_t *cells, size_t cells_len) {
     lent p = lend32(program, program_len), t = lend64(tape, tape_len), c = lend64(cells, cells_len);
-    lubewon_answer got = lubewon_share_run(ours(p), program_len, place, ours(t), tape_len, tape_place, budget, ours(c), cells_len);
+    lubewon_answer got = lubewon_share_run(n, ours(p), program_len, place, ours(t), tape_len, tape_place, budget, ours(c), cells_len);
     agree("share run", number, got,
-          ref_share_run(theirs(p), program_len, place, theirs(t), tape_len, tape_place, budget, theirs(c), cells_len));
+          ref_share_run(n, theirs(p), program_len, place, theirs(t), tape_len, tape_place, budget, theirs(c), cells_len));
     take_back("share run", "program", p, NULL);
     take_back("share run", "tape", t, NULL);
     take_back("share run", "cells", c, cells);

@@ -15,8 +15,9 @@ enum { ANY = 99 };
 
 lubewon_answer try_measure(uint32_t number, size_t n, const uint32_t *plan, size_t plan_len);
 lubewon_answer try_translate(uint32_t number, size_t n, const uint32_t *plan, size_t plan_len, uint32_t *out, size_t out_len);
+lubewon_answer try_add_head(uint32_t number, size_t n, const uint32_t *stored, size_t stored_len, uint32_t *out, size_t out_len);
 lubewon_answer try_plain_run(uint32_t number, const uint32_t *plan, size_t plan_len, uint64_t *cells, size_t cells_len);
-lubewon_answer try_share_run(uint32_t number, const uint32_t *program, size_t program_len, size_t place, const uint64_t *tape,
+lubewon_answer try_share_run(uint32_t number, size_t n, const uint32_t *program, size_t program_len, size_t place, const uint64_t *tape,
                              size_t tape_len, size_t tape_place, size_t budget, uint64_t *cells, size_t cells_len);
 lubewon_answer try_one_share_step(uint32_t number, uint32_t word, const uint64_t *tape, size_t tape_len, size_t tape_place, uint64_t *cells,
                                   size_t cells_len);

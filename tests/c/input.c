@@ -1,4 +1,4 @@
-/* Random plans, programs and words: see input.h. */
+/* Random plans, programs, words and heads: see input.h. */
 #include "input.h"
 
 #include "check.h"
@@ -69,14 +69,37 @@ uint32_t bad_plan_word(void) {
 }
 
 uint32_t bad_share_word(void) {
-    switch (below(7)) {
+    switch (below(8)) {
     case 0: return 0x00080001;
     case 1: return ref_word(REF_ADD, below(512), below(512), below(512));
     case 2: return random_share_word() | UINT32_C(1) << 27;
     case 3: return ref_word(REF_RAND, below(512), 1 + below(511), 0);
     case 4: return ref_word(REF_RAND, below(512), 0, 1 + below(511));
-    case 5: return ref_word(10 + below(6), below(512), below(512), below(512));
+    case 5: return ref_word(10 + below(6), below(512), 1 + below(511), below(512));
+    case 6: return ref_head(below(4) ? 9 + below(503) : below(2));
     default: return ref_word(below(2) ? REF_SHL : REF_SHR, below(512), below(512), 64 + below(448));
+    }
+}
+
+uint32_t bad_behind_head(void) {
+    return below(4) ? bad_share_word() : ref_head(2 + below(7));
+}
+
+static uint32_t any_first_word(size_t n) {
+    switch (below(6)) {
+    case 0: return ref_head(2 + below(7));
+    case 1: return ref_head(below(512));
+    case 2: return ref_head(n) | UINT32_C(1) << below(18);
+    case 3: return ref_head(n) | UINT32_C(1) << 27;
+    case 4: return random_share_word();
+    default: return bad_share_word();
+    }
+}
+
+uint32_t wrong_head(size_t n) {
+    for (;;) {
+        uint32_t word = any_first_word(n);
+        if (word != ref_head(n)) return word;
     }
 }
 

@@ -29,6 +29,6 @@ int main(void) {
     if (getrandom(tape, sizeof tape, 0) != (ssize_t)sizeof tape) return 1;
     put(1234, tape, 0);     /* tape words 0 and 1 */
     put(56789, tape + 2, 1); /* 2 and 3 */
-    if (lubewon_share_run(program, m.words, 0, tape, TAPE, 4, m.words, cells, LUBEWON_CELLS).number != LUBEWON_DONE) return 1;
+    if (lubewon_share_run(N, program, m.words, 0, tape, TAPE, 4, m.words, cells, LUBEWON_CELLS).number != LUBEWON_DONE) return 1;
     printf("%llu %llu\n", (unsigned long long)get(2), (unsigned long long)get(7));
 }

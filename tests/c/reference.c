@@ -36,7 +36,11 @@ uint32_t ref_word(unsigned kind, unsigned d, unsigned a, unsigned b) {
     return (uint32_t)kind << 28 | (uint32_t)d << 18 | (uint32_t)a << 9 | (uint32_t)b;
 }
 
-/* Whether every field is within the rules, with cells below `cells`; kinds 8 and 9 are judged by the callers. */
+uint32_t ref_head(size_t n) {
+    return ref_word(REF_HEAD, (unsigned)n, 0, 0);
+}
+
+/* Whether every field is within the rules, with cells below `cells`; kinds 8 and 9 are judged by the callers, and so is a head. */
 static bool fields_ok(uint32_t word, unsigned cells) {
     fields f = take_apart(word);
     if (word >> 27 & 1 || f.d >= cells) return false;
@@ -60,6 +64,12 @@ bool ref_good_plan_word(uint32_t word) {
 
 bool ref_good_share_word(uint32_t word) {
     return word >> 28 != REF_ADD && fields_ok(word, REF_CELLS);
+}
+
+bool ref_good_step(uint32_t word) {
+    for (size_t n = REF_FEWEST_SHARES; n <= REF_MOST_SHARES; n++)
+        if (word == ref_head(n)) return true;
+    return ref_good_share_word(word);
 }
 
 /* The place of the first word that is not good, or the length. */
@@ -98,11 +108,11 @@ ref_answer ref_plain_run(const uint32_t *plan, size_t plan_len, uint64_t *cells,
     return done(0, 0);
 }
 
-/* Good words in order on 512 cells; gives the tape words used. */
-static size_t run_words(const uint32_t *words, size_t count, const uint64_t *tape, uint64_t *cells) {
+size_t ref_run_words(const uint32_t *words, size_t count, const uint64_t *tape, uint64_t *cells) {
     size_t used = 0;
     for (size_t i = 0; i < count; i++) {
         fields f = take_apart(words[i]);
+        if (f.kind == REF_HEAD) continue;
         uint64_t tape_word = f.kind == REF_RAND ? tape[used++] : 0;
         cells[f.d] = new_value(f, cells, tape_word);
     }
@@ -115,25 +125,27 @@ static size_t count_rand(const uint32_t *words, size_t count) {
     return rands;
 }
 
-ref_answer ref_share_run(const uint32_t *program, size_t program_len, size_t place, const uint64_t *tape, size_t tape_len,
+ref_answer ref_share_run(size_t n, const uint32_t *program, size_t program_len, size_t place, const uint64_t *tape, size_t tape_len,
                          size_t tape_place, size_t budget, uint64_t *cells, size_t cells_len) {
+    if (!share_count_ok(n)) return refused(1);
     if (program_len > REF_PROGRAM_LIMIT) return refused(2);
-    size_t bad = first_bad(program, program_len, ref_good_share_word);
+    if (program_len == 0 || program[0] != ref_head(n)) return refused(8);
+    size_t bad = 1 + first_bad(program + 1, program_len - 1, ref_good_share_word);
     if (bad < program_len) return bad_word_at(bad);
     if (cells_len != REF_CELLS) return refused(4);
     if (place > program_len || tape_place > tape_len) return refused(5);
     size_t left = program_len - place;
     size_t count = budget < left ? budget : left;
     if (count_rand(program + place, count) > tape_len - tape_place) return refused(6);
-    return done(count, run_words(program + place, count, tape + tape_place, cells));
+    return done(count, ref_run_words(program + place, count, tape + tape_place, cells));
 }
 
 ref_answer ref_one_share_step(uint32_t word, const uint64_t *tape, size_t tape_len, size_t tape_place, uint64_t *cells, size_t cells_len) {
-    if (!ref_good_share_word(word)) return bad_word_at(0);
+    if (!ref_good_step(word)) return bad_word_at(0);
     if (cells_len != REF_CELLS) return refused(4);
     if (tape_place > tape_len) return refused(5);
     if (count_rand(&word, 1) > tape_len - tape_place) return refused(6);
-    return done(1, run_words(&word, 1, tape + tape_place, cells));
+    return done(1, ref_run_words(&word, 1, tape + tape_place, cells));
 }
 
 /* ---- Translation for n shares ---- */
@@ -253,7 +265,7 @@ ref_answer ref_measure(size_t n, const uint32_t *plan, size_t plan_len) {
     if (plan_len > REF_PLAN_LIMIT) return refused(2);
     size_t bad = first_bad(plan, plan_len, ref_good_plan_word);
     if (bad < plan_len) return bad_word_at(bad);
-    size_t words = 0, tape = 0, q = n * (n - 1) / 2;
+    size_t words = 1, tape = 0, q = n * (n - 1) / 2; /* the head is a word */
     for (size_t i = 0; i < plan_len; i++) {
         unsigned kind = plan[i] >> 28;
         words += kind == REF_AND ? 5 * n * n + 2 : kind == REF_ADD ? 60 * n * n + 21 * n + 24 : n;
@@ -267,9 +279,21 @@ ref_answer ref_translate(size_t n, const uint32_t *plan, size_t plan_len, uint32
     if (measured.number != 0) return measured;
     if (out_len < measured.words) return refused(4);
     emitter e = {(unsigned)n, out};
+    emit(&e, REF_HEAD, (unsigned)n, 0, 0);
     for (size_t i = 0; i < plan_len; i++) emit_plan_word(&e, plan[i]);
     if ((size_t)(e.next - out) != measured.words) abort(); /* the document's lengths and its steps must agree */
     return measured;
+}
+
+ref_answer ref_add_head(size_t n, const uint32_t *stored, size_t stored_len, uint32_t *out, size_t out_len) {
+    if (!share_count_ok(n)) return refused(1);
+    if (stored_len > REF_STORED_LIMIT) return refused(2);
+    size_t bad = first_bad(stored, stored_len, ref_good_share_word);
+    if (bad < stored_len) return bad_word_at(bad);
+    if (out_len < stored_len + 1) return refused(4);
+    out[0] = ref_head(n);
+    for (size_t i = 0; i < stored_len; i++) out[i + 1] = stored[i];
+    return done(stored_len + 1, count_rand(stored, stored_len));
 }
 
 /* ---- Operations on shares, split, join ---- */
@@ -289,7 +313,7 @@ ref_answer ref_operation(const uint32_t *plan, size_t plan_len, const uint64_t *
         work[32 * i] = x[i];
         if (y) work[32 * i + 1] = y[i];
     }
-    size_t used = run_words(program, measured.words, tape, work);
+    size_t used = ref_run_words(program, measured.words, tape, work);
     for (size_t i = 0; i < n; i++) result[i] = work[32 * i + 2];
     memset(work, 0, REF_CELLS * sizeof *work);
     free(program);

@@ -2,8 +2,9 @@
  *
  * Each call gets its slices as copies with guard words on both sides; the reference works on a second copy, and afterwards both are
  * compared whole. So a check of a call covers the answer, the written words, the words that must stay, and the words beyond the ends.
- * Turn-downs are tried in every combination of their conditions: the first that applies must win, by number but for 7, which comes right after 1. The random
- * numbers have a fixed seed. Prints a line for each group and leaves with 1 at the first failure. */
+ * Turn-downs are tried in every combination of their conditions: the first that applies must win, by number but for 7, which comes right
+ * after 1, and 8, which comes right after 2. The random numbers have a fixed seed. Prints a line for each group and leaves with 1 at the
+ * first failure. */
 #include <stdio.h>
 
 #include "check.h"
@@ -16,6 +17,8 @@ int main(void) {
     test_plain_run();
     test_share_run();
     test_one_share_step();
+    test_heads();
+    test_add_head();
     test_runs_in_a_row();
     test_plain_operations();
     test_plan_copies();

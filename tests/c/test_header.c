@@ -1,4 +1,6 @@
 /* Group: the header's macros against what the calls answer. */
+#include <stdlib.h>
+
 #include "calls.h"
 #include "check.h"
 #include "tests.h"
@@ -6,7 +8,7 @@
 static void limits(void) {
     static uint32_t plan[LUBEWON_PLAN_MAX + 1];
     uint64_t cells[LUBEWON_CELLS + 1] = {0}, tape[1] = {0}, shares[LUBEWON_MOST_SHARES + 1] = {0};
-    const uint32_t good = 0x20080001, rand = 0x90000000;
+    const uint32_t good = 0x20080001, rand = 0x90000000, program[2] = {LUBEWON_HEAD(2), good};
     for (size_t i = 0; i < COUNT(plan); i++) plan[i] = 0x80080001; /* ADD: the longest translation */
     CHECK(lubewon_measure(LUBEWON_MOST_SHARES, plan, LUBEWON_PLAN_MAX).words == LUBEWON_PROGRAM_MAX, "header: longest program");
     CHECK(lubewon_measure(2, plan, LUBEWON_PLAN_MAX + 1).number == LUBEWON_TOO_LONG, "header: too long");
@@ -15,9 +17,24 @@ static void limits(void) {
     CHECK(lubewon_measure(2, &rand, 1).number == LUBEWON_BAD_WORD, "header: bad word");
     CHECK(lubewon_plain_run(&good, 1, cells, LUBEWON_REGISTERS).number == LUBEWON_DONE, "header: registers");
     CHECK(lubewon_plain_run(&good, 1, cells, LUBEWON_REGISTERS + 1).number == LUBEWON_WRONG_LENGTH, "header: a register too many");
-    CHECK(lubewon_share_run(&good, 1, 1, tape, 0, 0, 1, cells, LUBEWON_CELLS).number == LUBEWON_DONE, "header: cells");
-    CHECK(lubewon_share_run(&good, 1, 2, tape, 0, 0, 1, cells, LUBEWON_CELLS).number == LUBEWON_PAST_END, "header: past the end");
+    CHECK(lubewon_share_run(2, program, 2, 2, tape, 0, 0, 1, cells, LUBEWON_CELLS).number == LUBEWON_DONE, "header: cells");
+    CHECK(lubewon_share_run(2, program, 2, 3, tape, 0, 0, 1, cells, LUBEWON_CELLS).number == LUBEWON_PAST_END, "header: past the end");
+    CHECK(lubewon_share_run(3, program, 2, 0, tape, 0, 0, 1, cells, LUBEWON_CELLS).number == LUBEWON_WRONG_HEAD, "header: wrong head");
     CHECK(lubewon_one_share_step(rand, tape, 0, 0, cells, LUBEWON_CELLS).number == LUBEWON_TAPE_SHORT, "header: tape short");
+}
+
+/* The longest program, with its head and stored without it. */
+static void longest_programs(void) {
+    const size_t most = LUBEWON_PROGRAM_MAX;
+    uint64_t cells[LUBEWON_CELLS] = {0}, tape[1] = {0};
+    uint32_t *program = grab((most + 1) * sizeof *program), out[1];
+    for (size_t i = 0; i <= most; i++) program[i] = i ? 0x20080001 : LUBEWON_HEAD(4);
+    CHECK(lubewon_share_run(4, program, most, 0, tape, 0, 0, 0, cells, LUBEWON_CELLS).number == LUBEWON_DONE, "header: longest run");
+    CHECK(lubewon_share_run(4, program, most + 1, 0, tape, 0, 0, 0, cells, LUBEWON_CELLS).number == LUBEWON_TOO_LONG, "header: too long a run");
+    CHECK(lubewon_add_head(4, program + 1, LUBEWON_STORED_MAX, out, 1).number == LUBEWON_WRONG_LENGTH, "header: longest stored program");
+    CHECK(lubewon_add_head(4, program + 1, LUBEWON_STORED_MAX + 1, out, 1).number == LUBEWON_TOO_LONG, "header: too long a stored program");
+    CHECK(LUBEWON_STORED_MAX + 1 == LUBEWON_PROGRAM_MAX, "header: a stored program lacks its head");
+    free(program);
 }
 
 static void plan_words(void) {
@@ -76,17 +93,19 @@ static void splitting(size_t n) {
     CHECK(lubewon_split(1, tape, LUBEWON_SPLIT_TAPE(n) - 1, out, n).number == LUBEWON_TAPE_SHORT, "header: split, n = %zu", n);
 }
 
-/* XOR 2 0 1 on n shares writes share i of register 2 at its cell. */
+/* XOR 2 0 1 on n shares writes share i of register 2 at its cell, behind the head of n. */
 static void cells_of(size_t n) {
-    uint32_t program[LUBEWON_MOST_SHARES];
+    uint32_t program[1 + LUBEWON_MOST_SHARES];
     const uint32_t plan = 0x20080001;
-    lubewon_translate(n, &plan, 1, program, LUBEWON_MOST_SHARES);
-    for (size_t i = 0; i < n; i++) CHECK((program[i] >> 18 & 511) == LUBEWON_CELL(i, 2), "header: cell, share %zu", i);
+    lubewon_translate(n, &plan, 1, program, 1 + LUBEWON_MOST_SHARES);
+    CHECK(program[0] == LUBEWON_HEAD(n), "header: head, n = %zu", n);
+    for (size_t i = 0; i < n; i++) CHECK((program[1 + i] >> 18 & 511) == LUBEWON_CELL(i, 2), "header: cell, share %zu", i);
 }
 
 void test_header(void) {
     begin("header");
     limits();
+    longest_programs();
     plan_words();
     layer_sizes();
     for (size_t n = LUBEWON_LEAST_SHARES; n <= LUBEWON_MOST_SHARES; n++) {
@@ -97,5 +116,5 @@ void test_header(void) {
         splitting(n);
         cells_of(n);
     }
-    end("limits, turn-downs, plan words, tape words, a layer's sizes and cells as the macros have them");
+    end("limits, turn-downs, heads, plan words, tape words, a layer's sizes and cells as the macros have them");
 }

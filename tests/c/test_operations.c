@@ -55,7 +55,7 @@ static void by_share_run(const operation *op, size_t n, const uint64_t *x, const
         if (op->two) cells[32 * i + 1] = y[i];
     }
     CHECK(lubewon_translate(n, op->plan, op->plan_len, program, words).number == 0, "%s: translate", op->name);
-    CHECK(lubewon_share_run(program, words, 0, tape, tape_len, 0, words, cells, REF_CELLS).words == words, "%s: share run", op->name);
+    CHECK(lubewon_share_run(n, program, words, 0, tape, tape_len, 0, words, cells, REF_CELLS).words == words, "%s: share run", op->name);
     for (size_t i = 0; i < n; i++) result[i] = cells[32 * i + 2];
     free(program);
 }

@@ -12,24 +12,26 @@
 static void words_by_hand(void) {
     static const struct {
         uint32_t word;
-        bool plan, share;
+        bool plan, share; /* in a plan; in a share program behind its head, and alone */
     } by_hand[] = {
         {0x00080001, false, false}, {0x10000000, true, true},   {0x1003FFFF, true, true},   {0x107FFFFF, true, true},
         {0x10800000, false, true},  {0x18000000, false, false}, {0x20080001, true, true},   {0x20884021, false, true},
         {0x3004021F, true, true},   {0x30040220, false, true},  {0x40040200, true, true},   {0x40040201, false, false},
         {0x5000003F, true, true},   {0x50000040, false, false}, {0x6000003F, true, true},   {0x60000040, false, false},
         {0x70040200, true, true},   {0x70040201, false, false}, {0x80040201, true, false},  {0x90000000, false, true},
-        {0x97FC0000, false, true},  {0x90000001, false, false}, {0x90000200, false, false}, {0xA0080000, false, false},
-        {0xF0000000, false, false}, {0x00000000, false, false}, {0xFFFFFFFF, false, false},
+        {0x97FC0000, false, true},  {0x90000001, false, false}, {0x90000200, false, false}, {0xA0040000, false, false},
+        {0xA0240000, false, false}, {0xA8080000, false, false}, {0xA0080001, false, false}, {0xA0080200, false, false},
+        {0xB0080000, false, false}, {0xF0000000, false, false}, {0x00000000, false, false}, {0xFFFFFFFF, false, false},
     };
     uint64_t tape[1], cells[REF_CELLS], registers[REF_REGISTERS];
     for (size_t i = 0; i < COUNT(by_hand); i++) {
         fill(cells, REF_CELLS);
         fill(registers, REF_REGISTERS);
         fill(tape, 1);
+        uint32_t program[2] = {0xA0080000, by_hand[i].word};
         try_measure(by_hand[i].plan ? 0 : 3, 2, &by_hand[i].word, 1);
         try_plain_run(by_hand[i].plan ? 0 : 3, &by_hand[i].word, 1, registers, REF_REGISTERS);
-        try_share_run(by_hand[i].share ? 0 : 3, &by_hand[i].word, 1, 0, tape, 1, 0, 1, cells, REF_CELLS);
+        try_share_run(by_hand[i].share ? 0 : 3, 2, program, 2, 0, tape, 1, 0, 2, cells, REF_CELLS);
         try_one_share_step(by_hand[i].share ? 0 : 3, by_hand[i].word, tape, 1, 0, cells, REF_CELLS);
     }
 }
@@ -41,7 +43,7 @@ static void try_word(uint32_t word) {
     fill(tape, 1);
     try_measure(ref_good_plan_word(word) ? 0 : 3, 2, &word, 1);
     try_plain_run(ref_good_plan_word(word) ? 0 : 3, &word, 1, registers, REF_REGISTERS);
-    try_one_share_step(ref_good_share_word(word) ? 0 : 3, word, tape, 1, 0, cells, REF_CELLS);
+    try_one_share_step(ref_good_step(word) ? 0 : 3, word, tape, 1, 0, cells, REF_CELLS);
 }
 
 static void words_of_edge_fields(void) {
@@ -98,14 +100,15 @@ static void measure_turn_downs(void) {
 static void measure_figures(void) {
     static const struct {
         size_t n, and_words, and_tape, add_words, add_tape;
-    } figures[] = {{2, 22, 2, 306, 24}, {8, 322, 56, 4032, 672}};
+    } figures[] = {{2, 22, 2, 306, 24}, {8, 322, 56, 4032, 672}}; /* words behind the head */
     for (size_t i = 0; i < COUNT(figures); i++) {
         uint32_t and_word = ref_word(REF_AND, 1, 1, 1), add_word = ref_word(REF_ADD, 1, 2, 3);
         lubewon_answer a = try_measure(0, figures[i].n, &and_word, 1);
-        CHECK(a.words == figures[i].and_words && a.tape == figures[i].and_tape, "measure: AND for %zu shares", figures[i].n);
+        CHECK(a.words == 1 + figures[i].and_words && a.tape == figures[i].and_tape, "measure: AND for %zu shares", figures[i].n);
         a = try_measure(0, figures[i].n, &add_word, 1);
-        CHECK(a.words == figures[i].add_words && a.tape == figures[i].add_tape, "measure: ADD for %zu shares", figures[i].n);
+        CHECK(a.words == 1 + figures[i].add_words && a.tape == figures[i].add_tape, "measure: ADD for %zu shares", figures[i].n);
     }
+    for (size_t n = 2; n <= 8; n++) CHECK(try_measure(0, n, &(uint32_t){0}, 0).words == 1, "measure: an empty plan has the head, n = %zu", n);
 }
 
 void test_measure(void) {
@@ -133,8 +136,7 @@ static void translate_turn_downs(uint32_t *out) {
         for (int round = 0; round < 30; round++) {
             size_t n = mask & 1 ? bad_share_count() : 2 + below(7);
             size_t len = plan_with(plan, mask & 2, mask & 4);
-            if (mask == 8 && len == 0) plan[len++] = plan_word_of(REF_AND); /* an empty plan fits everywhere */
-            size_t words = ref_measure(n, plan, len).words;
+            size_t words = ref_measure(n, plan, len).words; /* 0 where the plan is turned down, else the head at least */
             size_t out_len = mask & 8 ? (words && below(2) ? words - 1 : words ? below(words) : 0) : words + below(9);
             for (size_t i = 0; i < out_len; i++) out[i] = (uint32_t)random_word();
             try_translate(first_that_applies(mask, numbers, 4), n, plan, len, out, out_len);
@@ -142,9 +144,15 @@ static void translate_turn_downs(uint32_t *out) {
 }
 
 static void translate_each_kind(uint32_t *out) {
-    uint32_t listed = 0x20080001, small[2] = {0, 0};
-    try_translate(0, 2, &listed, 1, small, 2);
-    CHECK(small[0] == 0x20080001 && small[1] == 0x20884021, "translate: document 01's listed translation");
+    uint32_t listed = 0x20080001, small[3] = {0, 0, 0};
+    try_translate(0, 2, &listed, 1, small, 3);
+    CHECK(small[0] == 0xA0080000 && small[1] == 0x20080001 && small[2] == 0x20884021, "translate: the documents' listed translation");
+    for (size_t n = 2; n <= 8; n++) { /* an empty plan */
+        out[0] = out[1] = 0;
+        try_translate(4, n, &listed, 0, out, 0);
+        try_translate(0, n, &listed, 0, out, 2);
+        CHECK(out[0] == 0xA0000000 + n * 0x40000 && out[1] == 0, "translate: the head alone, n = %zu", n);
+    }
     for (size_t n = 2; n <= 8; n++)
         for (unsigned kind = 1; kind <= 8; kind++)
             for (int round = 0; round < 25; round++) { /* each kind alone, with equal and different registers */
@@ -161,12 +169,15 @@ static void translate_in_parts(uint32_t *out) {
         for (int round = 0; round < 30; round++) {
             size_t len = below(40), cut = below(len + 1);
             random_plan(plan, len);
-            size_t words = ref_measure(n, plan, len).words, head = ref_measure(n, plan, cut).words;
+            size_t words = ref_measure(n, plan, len).words, first = ref_measure(n, plan, cut).words;
             try_translate(0, n, plan, len, out, words);
-            try_translate(0, n, plan, cut, part, head);
-            try_translate(0, n, plan + cut, len - cut, part + head, words - head);
+            try_translate(0, n, plan, cut, part, first);
+            uint32_t last = part[first - 1]; /* the second part's head goes over it */
+            try_translate(0, n, plan + cut, len - cut, part + first - 1, words - first + 1);
+            CHECK(part[first - 1] == ref_head(n), "translate: the second part's head");
+            part[first - 1] = last;
             CHECK(memcmp(out, part, words * sizeof *out) == 0, "translate: the parts of a plan, one after the other");
-            for (size_t i = 0; i < words; i++) CHECK(ref_good_share_word(out[i]), "translate: a bad share word at %zu", i);
+            for (size_t i = 1; i < words; i++) CHECK(ref_good_share_word(out[i]), "translate: a bad share word at %zu", i);
         }
     free(part);
 }

@@ -1,4 +1,4 @@
-/* Group: share runs in a row, over long enough and over short tapes. */
+/* Group: share runs in a row, over long enough and over short tapes, with runs told another count in between. */
 #include <stdbool.h>
 #include <stdlib.h>
 #include <string.h>
@@ -10,14 +10,14 @@
 
 /* What a plan is run with for n shares: its counts as measured, its share program, a tape, and the cells at the start. */
 typedef struct {
-    size_t words, tape_words, tape_len;
+    size_t n, words, tape_words, tape_len;
     uint32_t *program;
     uint64_t *tape, start[REF_CELLS];
 } job;
 
 static job prepare(size_t n, const uint32_t *plan, size_t plan_len, size_t tape_len) {
     ref_answer measured = ref_measure(n, plan, plan_len);
-    job j = {.words = measured.words, .tape_words = measured.tape, .tape_len = tape_len};
+    job j = {.n = n, .words = measured.words, .tape_words = measured.tape, .tape_len = tape_len};
     j.program = grab(j.words * sizeof *j.program);
     j.tape = grab(tape_len * sizeof *j.tape);
     CHECK(lubewon_translate(n, plan, plan_len, j.program, j.words).number == 0, "translate");
@@ -54,10 +54,21 @@ static size_t random_budget(size_t words) {
     }
 }
 
+/* A run told another count than n: turned down, by 1 or 8, and it moves nothing. */
+static void told_another(const job *j, size_t place, size_t tape_place, size_t budget, uint64_t *cells) {
+    uint64_t before[REF_CELLS];
+    size_t told = below(3) ? 2 + below(7) : bad_share_count();
+    if (told == j->n) told = j->n == 8 ? 2 : j->n + 1;
+    memcpy(before, cells, sizeof before);
+    lubewon_answer a = try_share_run(told < 2 || told > 8 ? 1 : 8, told, j->program, j->words, place, j->tape, j->tape_len, tape_place, budget,
+                                     cells, REF_CELLS);
+    CHECK(a.words == 0 && a.tape == 0 && memcmp(cells, before, sizeof before) == 0, "runs in a row: one told %zu instead of %zu", told, j->n);
+}
+
 /* One run in a go leaves `whole`; the other ways must leave the same cells. */
 static void in_a_go(const job *j, size_t tape_place, uint64_t *whole) {
     memcpy(whole, j->start, sizeof j->start);
-    lubewon_answer a = try_share_run(0, j->program, j->words, 0, j->tape, j->tape_len, tape_place, SIZE_MAX, whole, REF_CELLS);
+    lubewon_answer a = try_share_run(0, j->n, j->program, j->words, 0, j->tape, j->tape_len, tape_place, SIZE_MAX, whole, REF_CELLS);
     CHECK(a.words == j->words && a.tape == j->tape_words, "one run in a go: %zu words and %zu tape words, measured %zu and %zu", a.words,
           a.tape, j->words, j->tape_words);
 }
@@ -68,11 +79,13 @@ static void in_pieces(const job *j, size_t tape_place, const uint64_t *whole) {
     memcpy(row, j->start, sizeof row);
     for (int run = 0; place < j->words; run++) {
         size_t budget = run < 60 ? random_budget(j->words) : SIZE_MAX, left = j->words - place;
-        lubewon_answer a = try_share_run(0, j->program, j->words, place, j->tape, j->tape_len, tape_place + used, budget, row, REF_CELLS);
+        if (below(3) == 0) told_another(j, place, tape_place + used, budget, row);
+        lubewon_answer a = try_share_run(0, j->n, j->program, j->words, place, j->tape, j->tape_len, tape_place + used, budget, row, REF_CELLS);
         CHECK(a.words == (budget < left ? budget : left), "runs in a row: words done");
         place += a.words;
         used += a.tape;
     }
+    told_another(j, place, tape_place + used, 1, row);
     CHECK(used == j->tape_words, "runs in a row: tape words");
     CHECK(memcmp(row, whole, sizeof row) == 0, "runs in a row and one run in a go leave different cells");
 }
@@ -105,17 +118,18 @@ static void runs_in_a_row(size_t n, const uint32_t *plan, size_t plan_len) {
 }
 
 /* After each plan word the registers join to the plain run so far, the tape words used are those foretold, and from the first AND or ADD on
- * AND's scratch cells are zero. */
+ * AND's scratch cells are zero. The head is done first, by itself. */
 static void word_by_word(size_t n, const uint32_t *plan, size_t plan_len) {
     job j = prepare(n, plan, plan_len, ref_measure(n, plan, plan_len).tape);
     uint64_t *cells = j.start, joined[REF_REGISTERS], registers[REF_REGISTERS];
-    size_t place = 0, used = 0;
+    size_t place = try_share_run(0, n, j.program, j.words, 0, j.tape, j.tape_len, 0, 1, cells, REF_CELLS).words, used = 0;
     bool wiped = false;
+    CHECK(place == 1, "word by word: the head");
     join_registers(n, cells, registers);
     for (size_t k = 0; k < plan_len; k++) {
-        lubewon_answer block = lubewon_measure(n, plan + k, 1);
-        lubewon_answer a = try_share_run(0, j.program, j.words, place, j.tape, j.tape_len, used, block.words, cells, REF_CELLS);
-        CHECK(a.words == block.words && a.tape == block.tape, "word by word: counts of plan word %08X for n = %zu", plan[k], n);
+        lubewon_answer block = lubewon_measure(n, plan + k, 1); /* with a head of its own */
+        lubewon_answer a = try_share_run(0, n, j.program, j.words, place, j.tape, j.tape_len, used, block.words - 1, cells, REF_CELLS);
+        CHECK(a.words == block.words - 1 && a.tape == block.tape, "word by word: counts of plan word %08X for n = %zu", plan[k], n);
         place += a.words;
         used += a.tape;
         try_plain_run(0, plan + k, 1, registers, REF_REGISTERS);
@@ -136,16 +150,18 @@ static void runs_to_the_tapes_end(size_t n, const uint32_t *plan, size_t plan_le
     uint64_t *cells = j.start;
     for (size_t rands = 0; rands <= j.tape_len; last++) rands += j.program[last] >> 28 == REF_RAND;
     last--; /* the place of the first RAND without a tape word */
-    try_share_run(6, j.program, j.words, 0, j.tape, j.tape_len, 0, SIZE_MAX, cells, REF_CELLS);
+    try_share_run(6, n, j.program, j.words, 0, j.tape, j.tape_len, 0, SIZE_MAX, cells, REF_CELLS);
     for (int run = 0; place < last; run++) {
         size_t budget = run < 20 ? random_budget(j.words) : last - place;
         uint32_t number = budget > last - place ? 6 : 0;
-        lubewon_answer a = try_share_run(number, j.program, j.words, place, j.tape, j.tape_len, used, budget, cells, REF_CELLS);
+        if (below(3) == 0) told_another(&j, place, used, budget, cells);
+        lubewon_answer a = try_share_run(number, n, j.program, j.words, place, j.tape, j.tape_len, used, budget, cells, REF_CELLS);
         place += a.words;
         used += a.tape;
     }
     CHECK(place == last && used == j.tape_len, "runs to the tape's end: stopped at %zu of %zu", place, last);
-    try_share_run(6, j.program, j.words, place, j.tape, j.tape_len, used, 1, cells, REF_CELLS);
+    try_share_run(6, n, j.program, j.words, place, j.tape, j.tape_len, used, 1, cells, REF_CELLS);
+    told_another(&j, place, used, 1, cells);
     put_away(&j);
 }
 
@@ -175,5 +191,5 @@ void test_runs_in_a_row(void) {
             word_by_word(n, plan, len);
         }
     }
-    end("random plans for n = 2..8: in pieces, in a go, step by step, joined against plain run, scratch wiped, short tapes");
+    end("random plans for n = 2..8: in pieces, in a go, step by step, joined against plain run, scratch wiped, short tapes, other counts in between");
 }

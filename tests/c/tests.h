@@ -12,6 +12,12 @@ void test_plain_run(void);
 void test_share_run(void);
 void test_one_share_step(void);
 
+/* test_heads.c */
+void test_heads(void);
+
+/* test_conversion.c */
+void test_add_head(void);
+
 /* test_runs_in_a_row.c */
 void test_runs_in_a_row(void);
 

@@ -81,15 +81,15 @@ static void complex_calls(size_t n) {
     }
 }
 
-/* In a go, in pieces, and step by step. */
+/* In a go, in pieces, and step by step, the head among the words. Programs are no secret, nor what puts a head before one. */
 static void share_runs(size_t n) {
     lubewon_answer m = lubewon_translate(n, plan, PLAN, program, PROGRAM);
     done("translate", n, m);
     all_secret();
-    done("share run", n, lubewon_share_run(program, m.words, 0, tape, TAPE, 0, m.words, cells, LUBEWON_CELLS));
+    done("share run", n, lubewon_share_run(n, program, m.words, 0, tape, TAPE, 0, m.words, cells, LUBEWON_CELLS));
     all_secret();
     for (size_t at = 0, tape_at = 0; at < m.words;) {
-        lubewon_answer part = lubewon_share_run(program, m.words, at, tape, TAPE, tape_at, 501, cells, LUBEWON_CELLS);
+        lubewon_answer part = lubewon_share_run(n, program, m.words, at, tape, TAPE, tape_at, 501, cells, LUBEWON_CELLS);
         done("share run", n, part);
         at += part.words, tape_at += part.tape;
     }

@@ -32,9 +32,9 @@ ONE_OPERAND(floor)
 ONE_OPERAND(truncate)
 ONE_OPERAND(nearest)
 
-/* Floor's share program, whole, on the work slice as cells. */
+/* Floor's share program, whole, its head included, on the work slice as cells. */
 static void share_run(void) {
-    answer = lubewon_share_run(program, program_words, 0, tape, TAPE, 0, program_words, work, LUBEWON_CELLS);
+    answer = lubewon_share_run(shares, program, program_words, 0, tape, TAPE, 0, program_words, work, LUBEWON_CELLS);
 }
 
 /* Four operands and two results: real and imaginary parts stand in turns. */

@@ -1,6 +1,6 @@
-"""The documents' listing of an input, written anew: step words taken apart, the translation for n shares, the lines."""
+"""The documents' listing of an input, written anew: step words taken apart, the translation for n shares behind its head, the lines."""
 
-CONST, XOR, AND, NOT, SHL, SHR, SPREAD, ADD, RAND = range(1, 10)
+CONST, XOR, AND, NOT, SHL, SHR, SPREAD, ADD, RAND, HEAD = range(1, 11)
 H, G, P, T = range(32, 36)
 
 
@@ -77,6 +77,6 @@ def listing(data):
         return b"refused 3\n"
     blocks = {w: translated(n, w) for w in set(plan)}
     lines = {w: b"".join(b"%08X\n" % s for s in blocks[w]) for w in blocks}
-    words = sum(len(blocks[w]) for w in plan)
+    words = 1 + sum(len(blocks[w]) for w in plan)
     tape = sum(s >> 28 == RAND for w in plan for s in blocks[w])
-    return b"shares %d words %d tape %d\n" % (n, words, tape) + b"".join(lines[w] for w in plan)
+    return b"shares %d words %d tape %d\n%08X\n" % (n, words, tape, word(HEAD, n)) + b"".join(lines[w] for w in plan)

@@ -58,7 +58,8 @@ checked most step words next =
     given (ltb most (length words)) (refused 2)
     (given (ltb (firstBad step words) (length words)) (badAt (firstBad step words)) next)
 
--- the check of a plan, and that of a share program: every call that takes one goes by it
+-- the check of a plan, and that of a share program without its head: every call that takes one goes by it (for a program with its head see
+-- checks_run)
 unfoldable pub planChecked : List ℕ → Answer → Answer
 planChecked plan next = checked planMax planStep plan next
 

@@ -1,4 +1,5 @@
-// Checking a share program: the search for its first bad word, and the check that every call on a share program goes by.
+// Checking a share program without its head: the search for its first bad word, by which a run's program is checked too (run), and the check of
+// a stored one.
 ghost use mathlib.Core.Path.{_≡_};
 ghost use Rattle.checks.specs.Answers.{done, firstBad, programChecked};
 ghost use Rattle.word.specs.Encoding.{programStep};

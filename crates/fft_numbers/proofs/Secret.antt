@@ -9,13 +9,14 @@ use native.Mathlib.Nat.{add-zero, le-trans, le-of-eq}
 use lib.ListN.{length, getD, take, drop, replicate, length-append, length-take, length-drop, length-replicate}
 use lib.Seq.{drop-drop}
 use Rattle.checks.specs.declared.answer.Answer.{Answer}
-use Rattle.masking.specs.Translation.{program}
+use Rattle.masking.specs.Translation.{program, headed}
 use Rattle.masking.specs.Foretold.{Accepted, foretoldTape}
 use Rattle.masking.specs.Machine.{rands}
-use Rattle.masking.specs.Runs.{standing}
+use Rattle.masking.specs.Runs.{Run, standing, told}
 use Rattle.masking.specs.Secrecy.{Tape, Pairing, doneAfter, wordAfter, Hidden}
 use Rattle.masking.proofs.emitted.Counts.{plan-counts}
-use Rattle.masking.proofs.OneRun.{translated-taken}
+use Rattle.masking.proofs.OneRun.{translated-taken, translated-turned}
+use Rattle.masking.proofs.Head.{head-rands}
 use Rattle.masking.proofs.InARow.{each-run, rands-take}
 use Rattle.masking.proofs.secret.InTurn.{cleaned, cleaned-tape, cleaned-same, first-tape, rest-tape, same, in-turn, there-first, there-rest}
 use Rattle.binary64.specs.Operations.{Operation}
@@ -32,20 +33,21 @@ use Rattle.fft_numbers.proofs.Slots.{first-puts, plan-accepted, act-sha
 
 -- ---- a step is reached
 
--- a share run with a budget of suc step, over a tape part as long as foretold
+-- a share run with a budget for the head and suc step words, over a tape part as long as foretold
 reached-by : (n : ℕ) (plan : List ℕ) → Accepted n plan → (cells before part : List ℕ) → length cells ≡ 512 → foretoldTape n plan ≤ length part
-    → (step : ℕ) → step < length (program n plan) → doneAfter n plan cells before part (suc step ∷ []) ≡ suc step
+    → (step : ℕ) → step < length (program n plan) → doneAfter n plan cells before part (told n (suc (suc step)) ∷ []) ≡ suc (suc step)
 reached-by n plan A cells before part size enough step inside =
-    let P = program n plan in
+    let P = headed n plan in
     let C = plan-counts n plan A in
     let tape = before ++ part in
     let all : length tape ≡ length before + length part = length-append before part in
-    let some : rands (take (suc step) P) ≤ foretoldTape n plan = le-trans (rands-take P (suc step)) (le-of-eq (C .tape)) in
+    let budget = suc (suc step) in
+    let some : rands (take budget P) ≤ foretoldTape n plan = le-trans (rands-take P budget) (le-of-eq (head-rands n (A .most) (program n plan) ∙ C .tape)) in
     let R =
-    each-run P tape cells (length before) (translated-taken n plan A) (standing cells 0 (length before))
-    (record { within = omega arith; tapeAt = sym (add-zero (length before)); inTape = omega arith; cells = refl; size = size }) (suc step) in
-    let m : min (suc step) (length P - 0) ≡ suc step = omega arith in
-    add-zero _ ∙ ap (λ (a : Answer). a .words) (R .else (omega arith)) ∙ m
+    each-run n P tape cells (length before) (translated-taken n plan A) (translated-turned n plan A) (standing cells 0 (length before))
+    (record { within = omega arith; tapeAt = sym (add-zero (length before)); inTape = omega arith; cells = refl; size = size }) (told n budget) in
+    let m : min budget (length P - 0) ≡ budget = omega arith in
+    add-zero _ ∙ ap (λ (a : Answer). a .words) (R .else refl (omega arith)) ∙ m
 
 placed-512 : (x y : List ℕ) → length (placed x y) ≡ 512
 unfolding placed
@@ -53,7 +55,7 @@ placed-512 x y = placed-size 1 0 y _ ∙ placed-size 0 0 x (replicate 512 0) ∙
 
 -- of a call in a list of acts
 pub reached-in : (n : ℕ) → 2 ≤ n → n ≤ 8 → (before : List Act) (o : Operation) (k a b : ℕ) (after : List Act) (step : ℕ) → step < length (program n (planOf o))
-    → (s : Slots (List ℕ)) (tape : List ℕ) → Tape (tapeFor n (before ++ (Call o k a b ∷ after))) tape → doneIn n before o a b s tape (suc step ∷ []) ≡ suc step
+    → (s : Slots (List ℕ)) (tape : List ℕ) → Tape (tapeFor n (before ++ (Call o k a b ∷ after))) tape → doneIn n before o a b s tape (told n (suc (suc step)) ∷ []) ≡ suc (suc step)
 reached-in n least most before o k a b after step inside s tape h =
     let t = runShares n before tape s in
     let rest = drop (tapeFor n before) tape in
@@ -66,8 +68,9 @@ reached-in n least most before o k a b after step inside s tape h =
 
 -- share runs of a call from two starts over two parts of tapes write equal words at a step, whatever words are before the parts
 pub record Meet (n : ℕ) (plan : List ℕ) (step : ℕ) (l l′ part part′ : List ℕ) : Type 0 where
-  pub equal : (before before′ budgets budgets′ : List ℕ) → doneAfter n plan l before part budgets ≡ suc step → doneAfter n plan l′ before′ part′ budgets′ ≡ suc step
-      → wordAfter n plan step l before part budgets ≡ wordAfter n plan step l′ before′ part′ budgets′
+  pub equal : (before before′ : List ℕ) (runs runs′ : List Run)
+      → doneAfter n plan l before part runs ≡ suc (suc step) → doneAfter n plan l′ before′ part′ runs′ ≡ suc (suc step)
+      → wordAfter n plan step l before part runs ≡ wordAfter n plan step l′ before′ part′ runs′
 
 meet-as : {n : ℕ} {plan : List ℕ} {step : ℕ} {l₀ l₀′ part₀ part₀′ l l′ part part′ : List ℕ} → l₀ ≡ l → l₀′ ≡ l′ → part₀ ≡ part → part₀′ ≡ part′
     → Meet n plan step l₀ l₀′ part₀ part₀′ → Meet n plan step l l′ part part′

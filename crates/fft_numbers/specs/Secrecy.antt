@@ -9,6 +9,7 @@ use Prim.Native.Nat.{ℕ, suc, _^_, _≤_, _<_}
 use lib.ListN.{length, getD, take, drop}
 use Rattle.masking.specs.Translation.{program}
 use Rattle.masking.specs.Foretold.{foretoldTape}
+use Rattle.masking.specs.Runs.{Run, told}
 use Rattle.masking.specs.Secrecy.{Tape, Pairing, doneAfter, wordAfter}
 use Rattle.binary64.specs.Operations.{Operation}
 use Rattle.plans.specs.BuiltIns.{planOf}
@@ -47,22 +48,24 @@ module _ (n : ℕ) (before : List Act) (o : Operation) (a b : ℕ) (s : Slots (L
   abbrev pub partOf : List ℕ
   partOf = take (foretoldTape n (planOf o)) (drop (tapeFor n before) tape)
 
-  -- the words done by share runs of the call with these budgets, and what the cell of its step holds then
-  abbrev pub doneIn : List ℕ → ℕ
-  doneIn budgets = doneAfter n (planOf o) startOf wordsBefore partOf budgets
+  -- the words done by share runs of the call, its program's head included, and what the cell of its step holds then
+  abbrev pub doneIn : List Run → ℕ
+  doneIn runs = doneAfter n (planOf o) startOf wordsBefore partOf runs
 
-  abbrev pub wordIn : ℕ → List ℕ → ℕ
-  wordIn step budgets = wordAfter n (planOf o) step startOf wordsBefore partOf budgets
+  abbrev pub wordIn : ℕ → List Run → ℕ
+  wordIn step runs = wordAfter n (planOf o) step startOf wordsBefore partOf runs
 
--- paired calculations write equal words at the call's step; a share run of the call with a budget of suc step reaches it in both
+-- paired calculations write equal words at the call's step; a share run of the call, told n, with a budget for the head and suc step words reaches it
+-- in both
 pub record CallHidden (n : ℕ) (acts before : List Act) (o : Operation) (a b step : ℕ) (s s′ : Slots (List ℕ)) : Type 0 where
   pub pairing : Pairing (tapeFor n acts)
   pub reached : (tape : List ℕ) → Tape (tapeFor n acts) tape
-      → (doneIn n before o a b s tape (suc step ∷ []) ≡ suc step) × (doneIn n before o a b s′ (pairing .there tape) (suc step ∷ []) ≡ suc step)
-  pub equal : (tape : List ℕ) → Tape (tapeFor n acts) tape → (budgets budgets′ : List ℕ)
-      → doneIn n before o a b s tape budgets ≡ suc step
-      → doneIn n before o a b s′ (pairing .there tape) budgets′ ≡ suc step
-      → wordIn n before o a b s tape step budgets ≡ wordIn n before o a b s′ (pairing .there tape) step budgets′
+      → (doneIn n before o a b s tape (told n (suc (suc step)) ∷ []) ≡ suc (suc step))
+      × (doneIn n before o a b s′ (pairing .there tape) (told n (suc (suc step)) ∷ []) ≡ suc (suc step))
+  pub equal : (tape : List ℕ) → Tape (tapeFor n acts) tape → (runs runs′ : List Run)
+      → doneIn n before o a b s tape runs ≡ suc (suc step)
+      → doneIn n before o a b s′ (pairing .there tape) runs′ ≡ suc (suc step)
+      → wordIn n before o a b s tape step runs ≡ wordIn n before o a b s′ (pairing .there tape) step runs′
 
 -- one share number for a step of an operation, wherever in a list of acts its call stands
 pub record StepOfCalls (n : ℕ) (o : Operation) (step : ℕ) : Type 0 where

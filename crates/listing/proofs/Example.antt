@@ -1,4 +1,4 @@
--- Document 01's listed translation of bytes 02 01 00 08 20. Assumes nothing.
+-- Document 01's listed translation of bytes 02 01 00 08 20, with the head. Assumes nothing.
 use mathlib.Core.Path.{refl}
 use Rattle.word.specs.Encoding.{row, named, put}
 use Rattle.word.specs.Layout.{lengthOf, tapeOf}

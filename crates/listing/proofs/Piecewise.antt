@@ -1,4 +1,4 @@
--- The listing piece by piece: the words and the first line by the answer's cases, what a piece comes to by the calls that it makes, and
+-- The listing piece by piece: the words and the opening by the answer's cases, what a piece comes to by the calls that it makes, and
 -- that pieces fit, move on and together list all words. Rests on Parts' count of the words that fit.
 use mathlib.Core.Path.{_≡_, refl, sym, ap, ap₂, _∙_}
 use mathlib.Core.Bool.{Bool, true, false, cond}
@@ -15,15 +15,16 @@ use Rattle.checks.specs.Answers.{keptUnless}
 use Rattle.translation.specs.Calls.{measured}
 use Rattle.translation.proofs.Counted.{accepted}
 use Rattle.listing_input.specs.Input.{listAnswer, countOf, planRead}
-use Rattle.listing_lines.specs.Lines.{firstLine, refusedLine}
+use Rattle.listing_lines.specs.Lines.{refusedLine}
 use Rattle.listing_lines.specs.Writing.{Wrote}
 use Rattle.listing_parts.specs.Parts.{ListsPart, wordLines, linesOf, wordBytes}
-use Rattle.listing.specs.Pieces.{ListsPiece, listedWords, headOf, pieceCount, pieceText, wordsListed, pieceNext, pieceLast, piecesFrom}
+use Rattle.listing.specs.Pieces.{ListsPiece, listedWords, openingLines, openingOf, pieceCount, pieceText, wordsListed, pieceNext, pieceLast, piecesFrom}
 use Rattle.listing_lines.proofs.Placed.{fits}
 use Rattle.listing_lines.proofs.Decimal.{decimal-most}
 use Rattle.listing_input.proofs.Answered.{taken}
 use Rattle.listing_parts.proofs.PlanWord.{lines-most}
 use Rattle.listing_parts.proofs.Parts.{fit-some, fitted-most}
+use Rattle.listing.proofs.Opened.{opening-lines-most}
 
 -- ---- by the answer's cases
 
@@ -36,13 +37,17 @@ module _ (input : List ℕ) where
   unfolding listedWords
   listed-none h = ap (λ (b : Bool). keptUnless b (planRead input) []) (ne-eqb (listAnswer input .number) 0 h)
 
-  pub head-taken : listAnswer input .number ≡ 0 → headOf input ≡ firstLine (countOf input) (listAnswer input .words) (listAnswer input .tape)
-  unfolding headOf
-  head-taken h = rw h
+  pub opening-taken : listAnswer input .number ≡ 0 → openingOf input ≡ openingLines (countOf input) (listAnswer input .words) (listAnswer input .tape)
+  unfolding openingOf
+  opening-taken h = rw h
 
-  pub head-refused : (listAnswer input .number ≡ 0 → ⊥) → headOf input ≡ refusedLine (listAnswer input .number)
-  unfolding headOf
-  head-refused h = rw (ne-eqb (listAnswer input .number) 0 h)
+  pub opening-refused : (listAnswer input .number ≡ 0 → ⊥) → openingOf input ≡ refusedLine (listAnswer input .number)
+  unfolding openingOf
+  opening-refused h = rw (ne-eqb (listAnswer input .number) 0 h)
+
+  -- a share count that is taken is 8 at most
+  pub count-most : listAnswer input .number ≡ 0 → countOf input ≤ 8
+  count-most h = accepted (countOf input) (planRead input) (measured (countOf input) (planRead input)) (taken input h) .most
 
   -- a plan that is listed has 2,048 words at most
   pub listed-most : length (listedWords input) ≤ 2048
@@ -62,7 +67,7 @@ none-left (suc k) = ne-eqb (suc k) 0 (λ e. omega arith) ∙ sym (lt-leb (suc k)
 
 module _ {input : List ℕ} {from : ℕ} {out after : List ℕ} {bytes : ℕ} where
   -- piece 0
-  pub first-piece : {count : ℕ} → from ≡ 0 → count ≡ length (listedWords input) → Wrote (headOf input) out after bytes
+  pub first-piece : {count : ℕ} → from ≡ 0 → count ≡ length (listedWords input) → Wrote (openingOf input) out after bytes
       → ListsPiece input from out after bytes 1 (eqb count 0)
   unfolding pieceText wordsListed
   first-piece {count} z e w = rw z (record { text = w; moved = refl; ends = none-left count ∙ ap (λ (k : ℕ). leb k 0) e })
@@ -82,22 +87,22 @@ module _ {input : List ℕ} {from : ℕ} {out after : List ℕ} {bytes : ℕ} wh
 
 -- ---- a piece fits and moves on
 
-head-most : (input : List ℕ) → length (headOf input) ≤ 96
-unfolding firstLine refusedLine
-head-most input = by (eqb (listAnswer input .number) 0) refl
+opening-most : (input : List ℕ) → length (openingOf input) ≤ 96
+unfolding refusedLine
+opening-most input = by (eqb (listAnswer input .number) 0) refl
   where
-    by : (b : Bool) → eqb (listAnswer input .number) 0 ≡ b → length (headOf input) ≤ 96
+    by : (b : Bool) → eqb (listAnswer input .number) 0 ≡ b → length (openingOf input) ≤ 96
     by true e =
-        rw (head-taken input (eqb-true (listAnswer input .number) 0 e))
-        (simp length-append (omega (arith, decimal-most (countOf input), decimal-most (listAnswer input .words), decimal-most (listAnswer input .tape))))
+        rw (opening-taken input (eqb-true (listAnswer input .number) 0 e))
+        (omega (arith, opening-lines-most (countOf input) (listAnswer input .words) (listAnswer input .tape)))
     by false e =
-        rw (head-refused input (eqb-false (listAnswer input .number) 0 e))
+        rw (opening-refused input (eqb-false (listAnswer input .number) 0 e))
         (simp length-append (omega (arith, decimal-most (listAnswer input .number))))
 
 module _ (room : ℕ) (r : wordBytes ≤ room) (input : List ℕ) where
   pub piece-most : (from : ℕ) → length (pieceText room input from) ≤ room
   unfolding pieceText
-  piece-most zero = omega (arith, head-most input)
+  piece-most zero = omega (arith, opening-most input)
   piece-most (suc k) = fitted-most (countOf input) (drop k (listedWords input)) room
 
   -- a piece that is not the last goes on behind itself, at a word that is left
@@ -123,7 +128,7 @@ lines-append n (x ∷ xs) ys = ap (λ (l : List ℕ). wordLines n x ++ l) (lines
 
 -- from piece 0 on all, and from piece k + 1 on the lines of the words from k on
 abbrev pub restFrom : List ℕ → ℕ → List ℕ
-restFrom input zero = headOf input ++ linesOf (countOf input) (listedWords input)
+restFrom input zero = openingOf input ++ linesOf (countOf input) (listedWords input)
 restFrom input (suc k) = linesOf (countOf input) (drop k (listedWords input))
 
 lines-most-of : (n : ℕ) (ws : List ℕ) → length (linesOf n ws) ≤ wordBytes * length ws
@@ -134,8 +139,8 @@ pub rest-most : (input : List ℕ) → length (restFrom input 0) ≤ 96 + wordBy
 rest-most input =
     omega (
       arith,
-      head-most input,
-      length-append (headOf input) (linesOf (countOf input) (listedWords input)),
+      opening-most input,
+      length-append (openingOf input) (linesOf (countOf input) (listedWords input)),
       lines-most-of (countOf input) (listedWords input),
       listed-most input,
     )
@@ -176,6 +181,6 @@ module _ (room : ℕ) (r : wordBytes ≤ room) (input : List ℕ) where
   in-turn zero (suc k) l = sym (ap (linesOf (countOf input)) (drop-of-length-le (listedWords input) {i = k} (omega arith)))
   in-turn (suc turns) from l = behind turns (in-turn turns) from l
 
-  -- the first line or the refusal, then the lines of all words
+  -- the opening, then the lines of all words
   pub pieces-whole : piecesFrom (1 + planMax) room input 0 ≡ restFrom input 0
   pieces-whole = in-turn 2049 0 (omega (arith, listed-most input))

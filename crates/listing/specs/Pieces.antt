@@ -1,13 +1,14 @@
--- The listing piece by piece: the first line or the refusal, then the lines of plan words.
+-- The listing piece by piece: the first line and the head's or the refusal, then the lines of plan words.
 use mathlib.Core.Path.{_≡_}
 use mathlib.Core.Bool.{Bool, cond}
 use mathlib.Core.List.{List, [], _++_}
 use Prim.Native.Nat.{ℕ, zero, suc, _+_, _≤_}
 use lib.Dec.{leb, eqb}
 use lib.ListN.{length, take, drop}
+use Rattle.word.specs.Head.{headWord}
 use Rattle.word.specs.Layout.{planMax}
 use Rattle.checks.specs.Answers.{keptUnless}
-use Rattle.listing_lines.specs.Lines.{firstLine, refusedLine}
+use Rattle.listing_lines.specs.Lines.{hexLine, firstLine, refusedLine}
 use Rattle.listing_lines.specs.Writing.{fitting, Wrote}
 use Rattle.listing_input.specs.Input.{listAnswer, countOf, planRead}
 use Rattle.listing_parts.specs.Parts.{linesOf, wordBytes, fitCount}
@@ -17,21 +18,25 @@ use Rattle.listing.specs.Sharelist.{listing}
 unfoldable pub listedWords : List ℕ → List ℕ
 listedWords input = keptUnless (eqb (listAnswer input .number) 0) (planRead input) []
 
--- the first line, or that of the turn-down
-unfoldable pub headOf : List ℕ → List ℕ
-headOf input =
+-- what stands before the plan's words: the first line and the head's, "a line A0080000 before its steps" (document 02, No. 7)
+abbrev pub openingLines : ℕ → ℕ → ℕ → List ℕ
+openingLines n words tape = firstLine n words tape ++ hexLine (headWord n)
+
+-- these, or the line of the turn-down
+unfoldable pub openingOf : List ℕ → List ℕ
+openingOf input =
     cond (eqb (listAnswer input .number) 0)
-    (firstLine (countOf input) (listAnswer input .words) (listAnswer input .tape))
+    (openingLines (countOf input) (listAnswer input .words) (listAnswer input .tape))
     (refusedLine (listAnswer input .number))
 
 -- how many words piece k + 1 lists into `room` bytes, from word k on
 abbrev pub pieceCount : ℕ → List ℕ → ℕ → ℕ
 pieceCount room input k = fitCount (countOf input) (drop k (listedWords input)) room
 
--- piece 0 is the first line or the refusal, and piece k + 1 has the lines from word k on. Past the last word, and so in every piece but 0
--- of an input that is turned down, there is nothing.
+-- piece 0 is the first line and the head's or the refusal, and piece k + 1 has the lines from word k on. Past the last word, and so in every
+-- piece but 0 of an input that is turned down, there is nothing.
 unfoldable pub pieceText : ℕ → List ℕ → ℕ → List ℕ
-pieceText room input zero = headOf input
+pieceText room input zero = openingOf input
 pieceText room input (suc k) = linesOf (countOf input) (take (pieceCount room input k) (drop k (listedWords input)))
 
 -- the words that are listed once a piece is: none by piece 0
@@ -60,6 +65,6 @@ piecesFrom (suc turns) room input from =
     fitting (pieceText room input from) room
     ++ cond (pieceLast room input from) [] (piecesFrom turns room input (pieceNext room input from))
 
--- from piece 0 on that is the listing: enough turns are one for the first line and one for each word of the longest plan
+-- from piece 0 on that is the listing: enough turns are one for the first line and the head's, and one for each word of the longest plan
 abbrev pub PiecesAreListing : Type 0
 PiecesAreListing = (room : ℕ) → wordBytes ≤ room → (input : List ℕ) → piecesFrom (1 + planMax) room input 0 ≡ listing input

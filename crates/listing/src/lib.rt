@@ -1,3 +1,4 @@
-// What the program `sharelist` writes for its input, piece by piece (pieces), over its input bytes (listing_input) and the lines of plan words
-// (listing_parts). `specs/` has the definitions that the contracts cite.
+// What the program `sharelist` writes for its input, piece by piece (pieces), the first line and the head's at the front (opening), over its input
+// bytes (listing_input) and the lines of plan words (listing_parts). `specs/` has the definitions that the contracts cite.
+pub mod opening;
 pub mod pieces;

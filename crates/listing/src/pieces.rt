@@ -1,11 +1,10 @@
-// The listing piece by piece: the first line or the refusal, then the lines of as many plan words as there is room for.
-ghost use Rattle.listing.specs.Pieces.{ListsPiece, headOf, listedWords};
+// The listing piece by piece: the first line and the head's or the refusal, then the lines of as many plan words as there is room for.
+ghost use Rattle.listing.specs.Pieces.{ListsPiece, listedWords};
 ghost use Rattle.listing_lines.specs.Writing.{Wrote};
+use crate::opening::opening;
 use listing_input::list_answer;
 use listing_input::plan_words;
 use listing_input::share_count;
-use listing_lines::line::first_line;
-use listing_lines::line::refused_line;
 use listing_parts::list_part;
 use word::step_word::StepWord;
 
@@ -19,17 +18,6 @@ fn listed_words(input: &[u8], plan: &mut [u32]) -> usize
     plan_words(input, plan)
 }
 
-// The first line, or that of the turn-down. Nothing is written where it does not fit.
-fn head(input: &[u8], out: &mut [u8]) -> usize
-    ensures { λ r. ⌜ Wrote (headOf (now (input .entry))) (now (out .entry)) (now (out .exit)) r ⌝ }
-{
-    let answer = list_answer(input);
-    if answer.number != 0 {
-        return refused_line(answer.number, out);
-    }
-    first_line(share_count(input), answer.words, answer.tape, out)
-}
-
 // What a piece comes to: the bytes written, the number of the piece that follows, and whether none does.
 pub struct Piece {
     pub bytes: usize,
@@ -38,15 +26,15 @@ pub struct Piece {
 }
 
 // One piece of the listing of an input, by its number: 0 first, then each that the piece before it says is next, up to the last. Where
-// `out` has less room than any word's lines may take, no word is listed, and the next of a
-// piece behind 0 is itself; a first line that does not fit is not written.
+// `out` has less room than any word's lines may take, no word is listed, and the next of a piece behind 0 is itself; a first line and the
+// head's that do not fit together are not written.
 pub fn list_piece(input: &[u8], from: usize, out: &mut [u8]) -> Piece
     ensures { λ r. ⌜ ListsPiece (now (input .entry)) from (now (out .entry)) (now (out .exit)) (r .bytes) (r .next) (r .last) ⌝ }
 {
     let mut plan = [0u32; StepWord::PLAN_MAX];
     let count = listed_words(input, &mut plan);
     if from == 0 {
-        let bytes = head(input, out);
+        let bytes = opening(input, out);
         return Piece {
             bytes,
             next: 1,

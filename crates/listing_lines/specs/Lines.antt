@@ -25,7 +25,7 @@ abbrev pub hexLines : List ℕ → List ℕ
 hexLines [] = []
 hexLines (w ∷ ws) = hexLine w ++ hexLines ws
 
--- "The first line is n, share words, tape words": "shares 2 words 2 tape 0"
+-- "The first line is n, share words, tape words", in the form of document 01's example. The head is among the words (document 02, No. 7).
 unfoldable pub firstLine : ℕ → ℕ → ℕ → List ℕ
 firstLine n words tape =
     (115 ∷ 104 ∷ 97 ∷ 114 ∷ 101 ∷ 115 ∷ 32 ∷ []) ++ (decimal n

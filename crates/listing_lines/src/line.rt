@@ -1,4 +1,4 @@
-// Texts: the first line and the refusal, put together in a line of their own and then written whole or not at all.
+// Texts: the first line and the refusal, put together in a line of their own and then written whole or not at all, as any text can be.
 ghost use mathlib.Core.List.{_++_};
 ghost use Prim.Native.Nat.{_+_, _≤_};
 ghost use lib.ListN.{length};
@@ -43,7 +43,7 @@ fn labelled(label: &[u8], n: usize, at: usize, line: &mut [u8]) -> usize
 }
 
 // Writes a text at the front of `out`, or nothing where it does not fit; the answer counts the bytes written.
-fn put_text(text: &[u8], out: &mut [u8]) -> usize
+pub fn put_text(text: &[u8], out: &mut [u8]) -> usize
     ensures { λ r. ⌜ Wrote (now (text .entry)) (now (out .entry)) (now (out .exit)) r ⌝ }
 {
     if out.len() < text.len() {

@@ -5,6 +5,7 @@ use Rattle.checks.proofs.Checking as checking
 use Rattle.plain.proofs.Laws.{laws}
 use Rattle.plain.proofs.Examples as plain-examples
 use Rattle.masking.proofs.emitted.Counts as emitted-counts
+use Rattle.masking.proofs.Head as head
 use Rattle.masking.proofs.Demand3 as runs
 use Rattle.masking.proofs.Leaks as leaks
 use Rattle.masking.proofs.WipedFirst as wiped-first
@@ -13,6 +14,7 @@ use Rattle.masking.proofs.Examples as examples
 use Rattle.masking.proofs.joined.Known as known
 use Rattle.masking.proofs.secret.Kept as kept
 use Rattle.translation.proofs.Tied as tied
+use Rattle.add_head.proofs.Converts as conversion
 use Rattle.binary64.proofs.Meaning as meaning
 use Rattle.binary64.proofs.FloorMeaning as floor-meaning
 use Rattle.binary64.proofs.WholeMeaning as whole-meaning
@@ -47,6 +49,8 @@ claims =
       counts = emitted-counts.counts;
       demand3 = runs.demand3;
       translate-tied = tied.translate-tied;
+      heads-hold = head.heads-hold;
+      converts = conversion.converts;
       unrefreshed-leaks = leaks.unrefreshed-leaks;
       wiped-first-zero = wiped-first.wiped-first-zero;
       every-share-wrong = every-share.every-share-wrong;

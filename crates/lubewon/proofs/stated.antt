@@ -6,6 +6,7 @@
 pub mod Conditions
 pub mod Words
 pub mod Runs
+pub mod Heads
 pub mod Secrecy
 pub mod Numbers
 pub mod Plans

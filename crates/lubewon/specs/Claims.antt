@@ -7,6 +7,7 @@ use Rattle.checks.specs.Answers.{FirstBadFound}
 use Rattle.plain.specs.Laws.{Laws}
 use Rattle.plain.specs.Examples.{WordExamples}
 use Rattle.masking.specs.Counts.{Counts}
+use Rattle.masking.specs.Head.{HeadsHold}
 use Rattle.masking.specs.Demand3.{Demand3Holds}
 use Rattle.masking.specs.Leaks.{UnrefreshedLeaks}
 use Rattle.masking.specs.WipedFirst.{WipedFirstZero}
@@ -15,6 +16,7 @@ use Rattle.masking.specs.Examples.{TranslationExamples}
 use Rattle.masking.specs.Kept.{SharesKept}
 use Rattle.masking.specs.Reads.{KnownDecide}
 use Rattle.translation.specs.Tied.{TranslateTied}
+use Rattle.add_head.specs.Converts.{Converts}
 use Rattle.binary64.specs.Meaning.{RoundingMeans, FloorMeans, TruncateMeans, NearestMeans}
 use Rattle.binary64.specs.Whole.{DroppingLowBits}
 use Rattle.binary64.specs.Ieee.{ProductIsIeee, SumIsIeee, FloorIsIeee, TruncateIsIeee, NearestIsIeee}
@@ -43,6 +45,9 @@ pub record Claims : Type 0 where
   pub counts : Counts
   pub demand3 : Demand3Holds
   pub translate-tied : TranslateTied
+  -- the head of a share program sets no cell and takes no tape word; and a stored program with the head put before it
+  pub heads-hold : HeadsHold
+  pub converts : Converts
   -- and that an AND on two shares without its refresh has no such secrecy
   pub unrefreshed-leaks : UnrefreshedLeaks
   -- that an AND which wipes before it copies z to d gives shares of 0, and that NOT and CONST in every share join wrongly at even n

@@ -3,7 +3,7 @@ ghost use mathlib.Core.Path.{_≡_};
 ghost use lib.ListN.{length};
 ghost use Rattle.plain.specs.Call.{plainAnswer, plainCells};
 ghost use Rattle.masking.specs.Demand3.{Demand3Holds};
-ghost use Rattle.masking.specs.Runs.{runAnswer, runCells, standing, stepAnswer, stepCells};
+ghost use Rattle.masking.specs.Runs.{runAnswer, runCells, standing, stepAnswer, stepCells, told};
 use checks::answer::Answer;
 
 // Runs a plan on 32 plain cells.
@@ -15,10 +15,11 @@ pub extern "C" fn lubewon_plain_run(plan: &[u32], cells: &mut [u64]) -> Answer
     plain::plain_run(plan, cells)
 }
 
-// Runs the smaller of `budget` and the words left of a share program, from the places given. What holds of such runs of a translated plan is
-// `Demand3Holds`.
+// Runs, for a reader that keeps n shares, the smaller of `budget` and the words left of a share program, from the places given. What holds of
+// such runs of a translated plan is `Demand3Holds`.
 #[no_mangle]
 pub extern "C" fn lubewon_share_run(
+    n: usize,
     program: &[u32],
     place: usize,
     tape: &[u64],
@@ -26,14 +27,14 @@ pub extern "C" fn lubewon_share_run(
     budget: usize,
     cells: &mut [u64],
 ) -> Answer
-    ensures answer { λ r. ⌜ r ≡ runAnswer (now (program .entry)) (now (tape .entry)) (standing (now (cells .entry)) place «tape_place») budget ⌝ }
-    ensures cells { λ _. ⌜ now (cells .exit) ≡ runCells (now (program .entry)) (now (tape .entry)) (standing (now (cells .entry)) place «tape_place») budget ⌝ }
+    ensures answer { λ r. ⌜ r ≡ runAnswer (now (program .entry)) (now (tape .entry)) (standing (now (cells .entry)) place «tape_place») (told n budget) ⌝ }
+    ensures cells { λ _. ⌜ now (cells .exit) ≡ runCells (now (program .entry)) (now (tape .entry)) (standing (now (cells .entry)) place «tape_place») (told n budget) ⌝ }
     ensures holds { λ _. ⌜ Demand3Holds ⌝ }
 {
-    share_run::run::share_run(program, place, tape, tape_place, budget, cells)
+    share_run::run::share_run(n, program, place, tape, tape_place, budget, cells)
 }
 
-// Runs a single word of a share program.
+// Runs a single word of a share program, a head among them.
 #[no_mangle]
 pub extern "C" fn lubewon_one_share_step(
     word: u32,
@@ -44,5 +45,5 @@ pub extern "C" fn lubewon_one_share_step(
     ensures answer { λ r. ⌜ r ≡ stepAnswer word (now (tape .entry)) (now (cells .entry)) «tape_place» ⌝ }
     ensures cells { λ _. ⌜ now (cells .exit) ≡ stepCells word (now (tape .entry)) (now (cells .entry)) «tape_place» ⌝ }
 {
-    share_run::run::one_share_step(word, tape, tape_place, cells)
+    share_step::one_share_step(word, tape, tape_place, cells)
 }

@@ -1,6 +1,8 @@
-// Measure and Translate for C.
+// Measure, Translate and the conversion of stored programs for C.
 ghost use mathlib.Core.Path.{_≡_};
 ghost use lib.ListN.{length};
+ghost use Rattle.add_head.specs.Conversion.{addHeadAnswer, addHeadOut};
+ghost use Rattle.add_head.specs.Converts.{Converts};
 ghost use Rattle.translation.specs.Calls.{measureAnswer, translateAnswer, translateOut};
 ghost use Rattle.translation.specs.Tied.{TranslateTied};
 use checks::answer::Answer;
@@ -21,4 +23,14 @@ pub extern "C" fn lubewon_translate(n: usize, plan: &[u32], out: &mut [u32]) -> 
     ensures holds { λ _. ⌜ TranslateTied ⌝ }
 {
     translation::translate::translate(n, plan, out)
+}
+
+// Puts the head for n shares before a stored program that has none. What holds of it is `Converts`.
+#[no_mangle]
+pub extern "C" fn lubewon_add_head(n: usize, stored: &[u32], out: &mut [u32]) -> Answer
+    ensures answer { λ r. ⌜ r ≡ addHeadAnswer n (now (stored .entry)) (length (now (out .entry))) ⌝ }
+    ensures out { λ _. ⌜ now (out .exit) ≡ addHeadOut n (now (stored .entry)) (now (out .entry)) ⌝ }
+    ensures holds { λ _. ⌜ Converts ⌝ }
+{
+    add_head::add_head(n, stored, out)
 }

@@ -9,9 +9,9 @@ use lib.ListN.{length, getD, set, replicate}
 use Rattle.checks.specs.declared.answer.Answer.{Answer}
 use Rattle.word.specs.Layout.{isShareCount, cell}
 use Rattle.checks.specs.Answers.{done, refused, given, afterCall}
-use Rattle.masking.specs.Translation.{shares, program}
+use Rattle.masking.specs.Translation.{shares, headed}
 use Rattle.masking.specs.Foretold.{foretoldTape}
-use Rattle.masking.specs.Runs.{standing, runAnswer, runCells}
+use Rattle.masking.specs.Runs.{standing, told, runAnswer, runCells}
 
 -- the answer, by lengths, where `needed` tape words are needed: 1 "share count not 2..8", 4 "a slice of wrong length", 6 "tape too short"
 unfoldable pub answerFor : ℕ → ℕ → ℕ → ℕ → ℕ → ℕ → Answer
@@ -44,12 +44,12 @@ placedOver x y cells = placedFrom 0 (x ∷ y ∷ []) cells
 unfoldable pub placed : List ℕ → List ℕ → List ℕ
 placed x y = placedOver x y (replicate 512 0)
 
--- a share run over the whole translated plan: its answer, and the cells afterwards
+-- a share run over the whole translated plan, head included, told n: its answer, and the cells afterwards
 abbrev pub wholeRun : List ℕ → ℕ → List ℕ → List ℕ → List ℕ → Answer
-wholeRun plan n x y tape = runAnswer (program n plan) tape (standing (placed x y) 0 0) (length (program n plan))
+wholeRun plan n x y tape = runAnswer (headed n plan) tape (standing (placed x y) 0 0) (told n (length (headed n plan)))
 
 unfoldable pub finished : List ℕ → ℕ → List ℕ → List ℕ → List ℕ → List ℕ
-finished plan n x y tape = runCells (program n plan) tape (standing (placed x y) 0 0) (length (program n plan))
+finished plan n x y tape = runCells (headed n plan) tape (standing (placed x y) 0 0) (told n (length (headed n plan)))
 
 -- the n shares of register r
 abbrev pub sharesOf : ℕ → ℕ → List ℕ → List ℕ

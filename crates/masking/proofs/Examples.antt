@@ -6,4 +6,4 @@ use Rattle.masking.specs.Examples.{TranslationExamples}
 
 pub translation-examples : TranslationExamples
 unfolding named row put translated shareCell andSteps andBlock adding
-translation-examples = record { listed = refl; share-0-apart = refl; inverted-once = refl; and-alike = refl; add-words = refl; add-tape = refl }
+translation-examples = record { listed = refl; empty = refl; share-0-apart = refl; inverted-once = refl; and-alike = refl; add-words = refl; add-tape = refl }

@@ -2,9 +2,10 @@
 -- Rests on OneRun for a run's answer, on Counts for the tape words of steps in a row.
 use mathlib.Core.Path.{_≡_, refl, sym, ap, ap₂, _∙_, subst}
 use mathlib.Core.List.{List, [], _∷_, _++_}
+use mathlib.Core.Bool.{Bool, true, false, cond}
 use Prim.Native.Nat.{ℕ, zero, suc, _+_, _-_, _≤_, _<_, min}
 use native.Mathlib.Nat.{add-assoc, add-zero, zero-add, add-left-cancel, zero-min, min-zero, suc-min-suc}
-use native.Mathlib.Decide.{decLt}
+use native.Mathlib.Decide.{decLt, ℕ-discrete}
 use native.Mathlib.Omega.{arith}
 use lib.Dec.{ltb}
 use lib.ListN.{length, getD, take, drop, length-take, length-set, take-append-drop}
@@ -15,13 +16,15 @@ use Rattle.word.specs.declared.step.Decoded.{Decoded}
 use Rattle.word.specs.declared.step.Decoded.the-variants.{Good, Bad}
 use Rattle.checks.specs.declared.answer.Answer.{Answer}
 use Rattle.word.specs.Encoding.{programStep}
+use Rattle.word.specs.Layout.{isShareCount}
 use Rattle.checks.specs.Answers.{done, refused, given, afterCall}
+use Rattle.checks_run.specs.RunCheck.{runChecked}
 use Rattle.word.specs.Table.{dest, becomes}
 use Rattle.masking.specs.Machine.{takes, withStep, stepsOf, execStep, execSteps, randsOf, exec, rands}
-use Rattle.masking.specs.Runs.{State, standing, due, runAnswer, moved, inARow, wordsDone, tapeUsed}
+use Rattle.masking.specs.Runs.{State, Run, standing, due, runRest, runAnswer, moved, inARow, wordsDone, tapeUsed}
 use Rattle.masking.specs.Demand3.{EachRun}
 use Rattle.masking.proofs.emitted.Counts as counts
-use Rattle.masking.proofs.OneRun.{Taken, due-length, rest-inside}
+use Rattle.masking.proofs.OneRun.{Taken, Turned, due-length, rest-inside}
 
 -- ---- words in a row
 pub steps-append : (p q : List ℕ) → stepsOf (p ++ q) ≡ stepsOf p ++ stepsOf q
@@ -75,16 +78,16 @@ pub due-rands : (P : List ℕ) (m b : ℕ) → rands (take (m + length (due P m 
 due-rands P m b = ap rands (due-append P m b) ∙ rands-append (take m P) (due P m b)
 
 -- places move on by the sums that the answers report
-pub place-sum : (P tape : List ℕ) (st : State) (budgets : List ℕ) → inARow P tape st budgets .place ≡ st .place + wordsDone P tape st budgets
+pub place-sum : (P tape : List ℕ) (st : State) (runs : List Run) → inARow P tape st runs .place ≡ st .place + wordsDone P tape st runs
 place-sum P tape st [] = sym (add-zero (st .place))
-place-sum P tape st (b ∷ bs) = place-sum P tape (moved P tape st b) bs ∙ add-assoc (st .place) (runAnswer P tape st b .words) (wordsDone P tape (moved P tape st b) bs)
+place-sum P tape st (r ∷ rs) = place-sum P tape (moved P tape st r) rs ∙ add-assoc (st .place) (runAnswer P tape st r .words) (wordsDone P tape (moved P tape st r) rs)
 
-pub tape-sum : (P tape : List ℕ) (st : State) (budgets : List ℕ) → inARow P tape st budgets .tapePlace ≡ st .tapePlace + tapeUsed P tape st budgets
+pub tape-sum : (P tape : List ℕ) (st : State) (runs : List Run) → inARow P tape st runs .tapePlace ≡ st .tapePlace + tapeUsed P tape st runs
 tape-sum P tape st [] = sym (add-zero (st .tapePlace))
-tape-sum P tape st (b ∷ bs) = tape-sum P tape (moved P tape st b) bs ∙ add-assoc (st .tapePlace) (runAnswer P tape st b .tape) (tapeUsed P tape (moved P tape st b) bs)
+tape-sum P tape st (r ∷ rs) = tape-sum P tape (moved P tape st r) rs ∙ add-assoc (st .tapePlace) (runAnswer P tape st r .tape) (tapeUsed P tape (moved P tape st r) rs)
 
 -- ---- one program, tape and start
-module _ (P tape start : List ℕ) (p₀ : ℕ) (taken : Taken P) where
+module _ (n : ℕ) (P tape start : List ℕ) (p₀ : ℕ) (taken : Taken n P) (turned : Turned n P) where
   -- a state that a list of runs can reach
   pub record Reached (st : State) : Type 0 where
     pub within : st .place ≤ length P
@@ -93,17 +96,20 @@ module _ (P tape start : List ℕ) (p₀ : ℕ) (taken : Taken P) where
     pub cells : st .cells ≡ exec (take (st .place) P) (drop p₀ tape) start
     pub size : length (st .cells) ≡ 512
 
-  module _ (st : State) (r : Reached st) (b : ℕ) where
+  module _ (st : State) (r : Reached st) (run : Run) where
+    abbrev b : ℕ
+    b = run .budget
+
     -- only the tape can be too short
-    answer-is : runAnswer P tape st b
+    answer-is : run .count ≡ n → runAnswer P tape st run
         ≡ given (ltb (length tape - st .tapePlace) (rands (due P (st .place) b))) (refused 6) (done (length (due P (st .place) b)) (rands (due P (st .place) b)))
-    answer-is = taken _ ∙ rest-inside P tape st b (r .size) (r .within) (r .inTape)
+    answer-is same = ap (λ (k : ℕ). runChecked k P (runRest P tape st b)) same ∙ taken _ ∙ rest-inside P tape st b (r .size) (r .within) (r .inTape)
 
-    short-answer : length tape - st .tapePlace < rands (due P (st .place) b) → runAnswer P tape st b ≡ refused 6
-    short-answer h = answer-is ∙ rw (lt-ltb _ _ h)
+    short-answer : run .count ≡ n → length tape - st .tapePlace < rands (due P (st .place) b) → runAnswer P tape st run ≡ refused 6
+    short-answer same h = answer-is same ∙ rw (lt-ltb _ _ h)
 
-    pub done-answer : rands (due P (st .place) b) ≤ length tape - st .tapePlace → runAnswer P tape st b ≡ done (length (due P (st .place) b)) (rands (due P (st .place) b))
-    done-answer h = answer-is ∙ rw (le-ltb _ _ h)
+    pub done-answer : run .count ≡ n → rands (due P (st .place) b) ≤ length tape - st .tapePlace → runAnswer P tape st run ≡ done (length (due P (st .place) b)) (rands (due P (st .place) b))
+    done-answer same h = answer-is same ∙ rw (le-ltb _ _ h)
 
     -- the state that an answer leaves
     left : Answer → State
@@ -114,25 +120,41 @@ module _ (P tape start : List ℕ) (p₀ : ℕ) (taken : Taken P) where
           tapePlace = st .tapePlace + a .tape;
         }
 
-    short-moved : length tape - st .tapePlace < rands (due P (st .place) b) → moved P tape st b ≡ st
-    unfolding left
-    short-moved h = ap left (short-answer h) ∙ λ i. record { cells = st .cells; place = add-zero (st .place) i; tapePlace = add-zero (st .tapePlace) i }
+    -- a turned-down run moves nothing
+    unmoved : record { cells = st .cells; place = st .place + 0; tapePlace = st .tapePlace + 0 } ≡ st
+    unmoved i = record { cells = st .cells; place = add-zero (st .place) i; tapePlace = add-zero (st .tapePlace) i }
 
-    done-moved : rands (due P (st .place) b) ≤ length tape - st .tapePlace
-        → moved P tape st b
+    short-moved : run .count ≡ n → length tape - st .tapePlace < rands (due P (st .place) b) → moved P tape st run ≡ st
+    unfolding left
+    short-moved same h = ap left (short-answer same h) ∙ unmoved
+
+    done-moved : run .count ≡ n → rands (due P (st .place) b) ≤ length tape - st .tapePlace
+        → moved P tape st run
         ≡ record {
           cells = exec (due P (st .place) b) (drop (st .tapePlace) tape) (st .cells);
           place = st .place + length (due P (st .place) b);
           tapePlace = st .tapePlace + rands (due P (st .place) b);
         }
     unfolding left
-    done-moved h = ap left (done-answer h)
+    done-moved same h = ap left (done-answer same h)
 
-    pub each-run : EachRun P tape st b
+    other-answer : (run .count ≡ n → ⊥) → runAnswer P tape st run ≡ refused (cond (isShareCount (run .count)) 8 1)
+    other-answer o = turned (run .count) o _
+
+    other-moved : (run .count ≡ n → ⊥) → moved P tape st run ≡ st
+    unfolding left
+    other-moved o = ap left (other-answer o) ∙ by (isShareCount (run .count))
+      where
+        by : (x : Bool) → left (refused (cond x 8 1)) ≡ st
+        by true = unmoved
+        by false = unmoved
+
+    pub each-run : EachRun n P tape st run
     each-run =
         record {
-          short = λ h. (short-answer h, short-moved h);
-          else = λ h. done-answer h ∙ ap (λ (k : ℕ). done k (rands (due P (st .place) b))) (due-length P (st .place) b);
+          other = λ o. (other-answer o, other-moved o);
+          short = λ same h. (short-answer same h, short-moved same h);
+          else = λ same h. done-answer same h ∙ ap (λ (k : ℕ). done k (rands (due P (st .place) b))) (due-length P (st .place) b);
         }
 
     -- a run over tape enough goes on in the program and on the tape
@@ -157,39 +179,43 @@ module _ (P tape start : List ℕ) (p₀ : ℕ) (taken : Taken P) where
           size = exec-size (due P (st .place) b) (drop (st .tapePlace) tape) (st .cells) ∙ r .size;
         }
 
-    moved-reached : Reached (moved P tape st b)
-    moved-reached = by (decLt (length tape - st .tapePlace) (rands (due P (st .place) b)))
+    moved-reached : Reached (moved P tape st run)
+    moved-reached = by (ℕ-discrete (run .count) n)
       where
-        by : Dec (length tape - st .tapePlace < rands (due P (st .place) b)) → Reached (moved P tape st b)
-        by (yes h) = subst Reached (sym (short-moved h)) r
-        by (no h) = let l : rands (due P (st .place) b) ≤ length tape - st .tapePlace = omega arith in subst Reached (sym (done-moved l)) (done-reached l)
+        told : run .count ≡ n → Dec (length tape - st .tapePlace < rands (due P (st .place) b)) → Reached (moved P tape st run)
+        told same (yes h) = subst Reached (sym (short-moved same h)) r
+        told same (no h) = let l : rands (due P (st .place) b) ≤ length tape - st .tapePlace = omega arith in subst Reached (sym (done-moved same l)) (done-reached l)
+
+        by : Dec (run .count ≡ n) → Reached (moved P tape st run)
+        by (yes same) = told same (decLt (length tape - st .tapePlace) (rands (due P (st .place) b)))
+        by (no o) = subst Reached (sym (other-moved o)) r
 
   -- so does a list of runs
-  pub all-reached : (st : State) → Reached st → (budgets : List ℕ) → Reached (inARow P tape st budgets)
+  pub all-reached : (st : State) → Reached st → (runs : List Run) → Reached (inARow P tape st runs)
   all-reached st r [] = r
-  all-reached st r (b ∷ bs) = all-reached (moved P tape st b) (moved-reached st r b) bs
+  all-reached st r (x ∷ xs) = all-reached (moved P tape st x) (moved-reached st r x) xs
 
   -- from program place 0: after a list of runs the cells are what the words done make of the start, and the tape words used are their RANDs
   module _ (size : length start ≡ 512) (inside : p₀ ≤ length tape) where
     abbrev begun : State
     begun = standing start 0 p₀
 
-    pub begun-reached : (budgets : List ℕ) → Reached (inARow P tape begun budgets)
+    pub begun-reached : (runs : List Run) → Reached (inARow P tape begun runs)
     begun-reached = all-reached begun (record { within = omega arith; tapeAt = sym (add-zero p₀); inTape = inside; cells = refl; size = size })
 
-    module _ (budgets : List ℕ) where
+    module _ (runs : List Run) where
       abbrev m : ℕ
-      m = wordsDone P tape begun budgets
+      m = wordsDone P tape begun runs
 
-      pub place-is : inARow P tape begun budgets .place ≡ m
-      place-is = place-sum P tape begun budgets ∙ zero-add m
+      pub place-is : inARow P tape begun runs .place ≡ m
+      place-is = place-sum P tape begun runs ∙ zero-add m
 
-      pub cells-are : inARow P tape begun budgets .cells ≡ exec (take m P) (drop p₀ tape) start
-      cells-are = begun-reached budgets .cells ∙ ap (λ (k : ℕ). exec (take k P) (drop p₀ tape) start) place-is
+      pub cells-are : inARow P tape begun runs .cells ≡ exec (take m P) (drop p₀ tape) start
+      cells-are = begun-reached runs .cells ∙ ap (λ (k : ℕ). exec (take k P) (drop p₀ tape) start) place-is
 
-      pub used-are : tapeUsed P tape begun budgets ≡ rands (take m P)
+      pub used-are : tapeUsed P tape begun runs ≡ rands (take m P)
       used-are =
-          add-left-cancel p₀ (sym (tape-sum P tape begun budgets) ∙ begun-reached budgets .tapeAt ∙ ap (λ (k : ℕ). p₀ + rands (take k P)) place-is)
+          add-left-cancel p₀ (sym (tape-sum P tape begun runs) ∙ begun-reached runs .tapeAt ∙ ap (λ (k : ℕ). p₀ + rands (take k P)) place-is)
 
 -- no first words of a program hold more RAND than all
 pub rands-take : (P : List ℕ) (m : ℕ) → rands (take m P) ≤ rands P

@@ -1,21 +1,28 @@
--- A share run's answer by its halves, the check of its program and the rest. Of the check: that it passes (`Taken`) for the words of a
--- translation, and that what comes next is the answer where that is done. Of the rest: what it is from places inside program and tape, what
+-- A share run's answer by its halves, the check of its program and the rest. Of the check: that it passes (`Taken`) for good words behind the head
+-- for the reader's count, and so for a translation, that it does not for another count (`Turned`), and that what comes next is the answer where
+-- that is done. Of the rest: what it is from places inside program and tape, what
 -- it says where it is done, and that its counts never pass what is left. All that is proved of runs goes by these.
--- Rests on checks' Checked for the first half, on Counts for a translation's words.
+-- Rests on checks_run's RunChecked for the first half, on Counts for a translation's words.
 use mathlib.Core.Path.{_≡_, refl, ap, _∙_}
-use mathlib.Core.Bool.{Bool, true, false, not, _||_}
-use mathlib.Core.List.{List}
-use Prim.Native.Nat.{ℕ, _-_, _≤_, min}
+use mathlib.Core.Bool.{Bool, true, false, not, _||_, cond}
+use mathlib.Core.List.{List, _∷_}
+use Prim.Native.Nat.{ℕ, suc, _-_, _≤_, min}
 use native.Mathlib.Nat.{le-trans, le-of-eq, min-le-right}
 use native.Mathlib.Omega.{arith}
 use lib.Dec.{ltb, eqb}
 use lib.ListN.{length, drop, length-take, length-drop}
-use borrow.Author.Tests.{ltb-false, le-ltb, eq-eqb, eqb-true, not-false}
+use borrow.Author.Tests.{ltb-false, le-ltb, le-leb, eq-eqb, ne-eqb, eqb-true, not-false}
 use Rattle.checks.specs.declared.answer.Answer.{Answer}
-use Rattle.checks.specs.Answers.{done, refused, given, programChecked}
-use Rattle.checks.proofs.Checked.{program-check}
+use Rattle.checks.specs.Answers.{firstBad, done, refused, given}
+use Rattle.checks_run.specs.RunCheck.{runChecked}
+use Rattle.checks_run.proofs.RunChecked.{run-next, run-passes}
 use Rattle.checks.proofs.Passed.{passed}
-use Rattle.masking.specs.Translation.{program}
+use Rattle.word.specs.Encoding.{programStep}
+use Rattle.word.specs.Layout.{isShareCount, programMax, headedMax}
+use Rattle.word.specs.Head.{headWord}
+use Rattle.word.proofs.Small.{share-range}
+use Rattle.word.proofs.Head.{heads-differ}
+use Rattle.masking.specs.Translation.{program, headed}
 use Rattle.masking.specs.Foretold.{Accepted}
 use Rattle.masking.specs.Machine.{rands}
 use Rattle.masking.specs.Runs.{State, due, runRest}
@@ -23,22 +30,48 @@ use Rattle.masking.proofs.emitted.Counts.{plan-counts}
 
 -- ---- the check of a run's program
 
--- it passes: whatever comes next is the answer
-abbrev pub Taken : List ℕ → Type 0
-Taken P = (rest : Answer) → programChecked P rest ≡ rest
+-- it passes for a run told n: whatever comes next is the answer
+abbrev pub Taken : ℕ → List ℕ → Type 0
+Taken n P = (rest : Answer) → runChecked n P rest ≡ rest
 
-pub translated-taken : (n : ℕ) (plan : List ℕ) → Accepted n plan → Taken (program n plan)
-translated-taken n plan A =
-    let c = plan-counts n plan A in
-    program-check .next (program n plan) (record { short = c .longest; good = c .good })
+-- and for a run told another count it does not: 8, or 1 where that is no share count
+abbrev pub Turned : ℕ → List ℕ → Type 0
+Turned n P = (k : ℕ) → (k ≡ n → ⊥) → (rest : Answer) → runChecked k P rest ≡ refused (cond (isShareCount k) 8 1)
+
+module _ (n : ℕ) (P : List ℕ) (least : 2 ≤ n) (most : n ≤ 8) (short : length P ≤ programMax) where
+  -- good words behind the head for n
+  pub good-taken : firstBad programStep P ≡ length P → Taken n (headWord n ∷ P)
+  good-taken good =
+      run-next n (headWord n ∷ P) (record {
+        count = rw (le-leb 2 n least, le-leb n 8 most);
+        short = omega (arith, short);
+        head = eq-eqb (headWord n) (headWord n) refl;
+        good = omega (arith, good);
+      })
+
+  pub other-turned : Turned n (headWord n ∷ P)
+  unfolding runChecked
+  other-turned k o rest = by (isShareCount k) refl
+    where
+      by : (b : Bool) → isShareCount k ≡ b → runChecked k (headWord n ∷ P) rest ≡ refused (cond b 8 1)
+      by false e = rw e
+      by true e =
+          rw (
+            e,
+            le-ltb headedMax (suc (length P)) (omega (arith, short)),
+            ne-eqb (headWord n) (headWord k) (heads-differ n k most (share-range k e .1) o),
+          )
+
+module _ (n : ℕ) (plan : List ℕ) (A : Accepted n plan) where
+  pub translated-taken : Taken n (headed n plan)
+  translated-taken = good-taken n (program n plan) (A .least) (A .most) (plan-counts n plan A .longest) (plan-counts n plan A .good)
+
+  pub translated-turned : Turned n (headed n plan)
+  translated-turned = other-turned n (program n plan) (A .least) (A .most) (plan-counts n plan A .longest)
 
 -- an answer that is done is what comes next
-pub done-rest : (P : List ℕ) (rest : Answer) → programChecked P rest .number ≡ 0 → programChecked P rest ≡ rest
-done-rest P rest z = program-check .next P (program-check .passes P rest z .0) rest
-
--- it counts nothing of its own
-pub check-counts : (P : List ℕ) (rest : Answer) → (programChecked P rest .words ≤ rest .words) × (programChecked P rest .tape ≤ rest .tape)
-check-counts = program-check .counts
+pub done-rest : (n : ℕ) (P : List ℕ) (rest : Answer) → runChecked n P rest .number ≡ 0 → runChecked n P rest ≡ rest
+done-rest n P rest z = run-next n P (run-passes n P rest z .0) rest
 
 -- ---- the rest
 

@@ -4,12 +4,13 @@ use mathlib.Core.Path.{_≡_}
 use mathlib.Core.List.{[], _∷_}
 use lib.ListN.{length}
 use Rattle.word.specs.declared.step.Step.the-variants.{Const, Xor, And, Not, Shl, Add, Rand}
-use Rattle.masking.specs.Translation.{program, translated}
+use Rattle.masking.specs.Translation.{headed, translated}
 use Rattle.masking.specs.Machine.{randsOf}
 
 pub record TranslationExamples : Type 0 where
-  -- "shares 2 words 2 tape 0": 20080001 and 20884021
-  pub listed : program 2 (0x20080001 ∷ []) ≡ 0x20080001 ∷ 0x20884021 ∷ []
+  -- "words 3 and a line A0080000 before its steps" (document 02, No. 7): 20080001 and 20884021. The empty plan's program is the head alone.
+  pub listed : headed 2 (0x20080001 ∷ []) ≡ 0xA0080000 ∷ 0x20080001 ∷ 0x20884021 ∷ []
+  pub empty : headed 8 [] ≡ 0xA0200000 ∷ []
   pub share-0-apart : translated 2 (Const 3 700) ≡ Const 3 700 ∷ Const 35 0 ∷ []
   pub inverted-once : translated 2 (Not 1 0) ≡ Not 1 0 ∷ Shl 33 32 0 ∷ []
   -- AND 1 1 1: y, refreshed; z, with both cross products of the pair; then d; then the scratch cells wiped

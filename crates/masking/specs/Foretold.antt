@@ -7,7 +7,7 @@ use Rattle.word.specs.Encoding.{planStep, kindOf}
 use Rattle.word.specs.Layout.{lengthOf, tapeOf, planMax}
 use Rattle.checks.specs.Answers.{firstBad}
 
--- share words: "Each n words", and for AND and ADD "5n² + 2" and "60n² + 21n + 24" (document 02, No. 4)
+-- share words, without the head: "Each n words", and for AND and ADD "5n² + 2" and "60n² + 21n + 24" (document 02, No. 4)
 abbrev pub foretoldWords : ℕ → List ℕ → ℕ
 foretoldWords n [] = 0
 foretoldWords n (w ∷ ws) = lengthOf (kindOf w) n + foretoldWords n ws

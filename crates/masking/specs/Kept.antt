@@ -1,4 +1,4 @@
--- Shares kept by a whole program: starts that agree in a share end in agreement in that share, over paired tapes. For document 02, No. 5:
+-- Shares kept by a whole program behind its head: starts that agree in a share end in agreement in that share, over paired tapes. For document 02, No. 5:
 -- calls in a row need that each hands on to the next one the agreement that it started from.
 use mathlib.Core.List.{List}
 use Prim.Native.Nat.{ℕ, _<_}
@@ -7,7 +7,7 @@ use Rattle.masking.specs.Foretold.{Accepted, foretoldTape}
 use Rattle.masking.specs.Machine.{exec, Start}
 use Rattle.masking.specs.Secrecy.{Agree, Tape, Pairing}
 
--- paired runs over the whole program end in agreement in share i
+-- paired runs over all words behind the head end in agreement in share i
 pub record EndsAgree (n : ℕ) (plan : List ℕ) (i : ℕ) (l l′ : List ℕ) : Type 0 where
   pub pairing : Pairing (foretoldTape n plan)
   pub agree : (tape : List ℕ) → Tape (foretoldTape n plan) tape → Agree i (exec (program n plan) tape l) (exec (program n plan) (pairing .there tape) l′)

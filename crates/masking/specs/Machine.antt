@@ -23,7 +23,8 @@ takes (Spread d a) = 0
 takes (Add d a b) = 0
 takes (Rand d) = 1
 
--- the steps of words; a bad word is none (no run goes over a program that has one)
+-- the steps of words; a head is none (document 02, No. 7: it "changes no cell, uses no tape"), nor is a bad word (no run goes over a program that
+-- has one)
 abbrev pub withStep : Decoded → List Step → List Step
 withStep (Good s) ss = s ∷ ss
 withStep Bad ss = ss

@@ -17,7 +17,7 @@ use Rattle.masking.specs.Machine.{exec}
 abbrev pub AgreeIn : ℕ → List ℕ → List ℕ → List ℕ → Type 0
 AgreeIn n ks c c′ = (i r : ℕ) → i < n → r < 32 → T (memberOf ks r) → getD c (cell i r) 0 ≡ getD c′ (cell i r) 0
 
--- what the cell of step s holds after it, in a run of the plan's share program from these cells
+-- what the cell of step s holds after it, in a run of the plan's share words, without the head, from these cells
 abbrev pub stepWord : ℕ → List ℕ → ℕ → List ℕ → List ℕ → ℕ
 stepWord n plan s tape cells = getD (exec (take (suc s) (program n plan)) tape cells) (fieldD (getD (program n plan) s 0)) 0
 

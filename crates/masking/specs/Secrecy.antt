@@ -6,10 +6,10 @@ use Prim.Native.Nat.{ℕ, suc, _<_}
 use lib.ListN.{length, getD}
 use Rattle.word.specs.Encoding.{fieldD}
 use Rattle.word.specs.Layout.{cell}
-use Rattle.masking.specs.Translation.{program}
+use Rattle.masking.specs.Translation.{program, headed}
 use Rattle.masking.specs.Foretold.{foretoldTape}
 use Rattle.masking.specs.Machine.{Start, Words}
-use Rattle.masking.specs.Runs.{State, standing, inARow, wordsDone}
+use Rattle.masking.specs.Runs.{State, Run, standing, inARow, wordsDone}
 
 -- "agree in share i, i below n, if cells 32i + r are equal for all registers r; other cells may differ"
 abbrev pub Agree : ℕ → List ℕ → List ℕ → Type 0
@@ -29,26 +29,27 @@ pub record Pairing (L : ℕ) : Type 0 where
   pub back-there : (tape : List ℕ) → Tape L tape → back (there tape) ≡ tape
   pub there-back : (tape : List ℕ) → Tape L tape → there (back tape) ≡ tape
 
--- a list of runs with these budgets, over the tape that follows the words `before`, from its place on: where it leaves off, the words done
-module _ (n : ℕ) (plan cells before tape budgets : List ℕ) where
+-- a list of runs, over the tape that follows the words `before`, from its place on: where it leaves off, the words done
+module _ (n : ℕ) (plan cells before tape : List ℕ) (runs : List Run) where
   abbrev pub leftAfter : State
-  leftAfter = inARow (program n plan) (before ++ tape) (standing cells 0 (length before)) budgets
+  leftAfter = inARow (headed n plan) (before ++ tape) (standing cells 0 (length before)) runs
 
   abbrev pub doneAfter : ℕ
-  doneAfter = wordsDone (program n plan) (before ++ tape) (standing cells 0 (length before)) budgets
+  doneAfter = wordsDone (headed n plan) (before ++ tape) (standing cells 0 (length before)) runs
 
--- "A step's word is what its cell d holds after a list whose last word done is that step."
-abbrev pub wordAfter : ℕ → List ℕ → ℕ → List ℕ → List ℕ → List ℕ → List ℕ → ℕ
-wordAfter n plan s cells before tape budgets = getD (leftAfter n plan cells before tape budgets .cells) (fieldD (getD (program n plan) s 0)) 0
+-- "A step's word is what its cell d holds after a list whose last word done is that step." Step s is word s behind the head, which "writes no
+-- word" (document 02, No. 7) and is no step.
+abbrev pub wordAfter : ℕ → List ℕ → ℕ → List ℕ → List ℕ → List ℕ → List Run → ℕ
+wordAfter n plan s cells before tape runs = getD (leftAfter n plan cells before tape runs .cells) (fieldD (getD (program n plan) s 0)) 0
 
--- paired runs write equal words at step s
+-- paired runs write equal words at step s, with which the head and s + 1 words are done
 pub record Hidden (n : ℕ) (plan : List ℕ) (s : ℕ) (l l′ : List ℕ) : Type 0 where
   pub pairing : Pairing (foretoldTape n plan)
   pub equal : (tape : List ℕ) → Tape (foretoldTape n plan) tape
-      → (before before′ budgets budgets′ : List ℕ)
-      → doneAfter n plan l before tape budgets ≡ suc s
-      → doneAfter n plan l′ before′ (pairing .there tape) budgets′ ≡ suc s
-      → wordAfter n plan s l before tape budgets ≡ wordAfter n plan s l′ before′ (pairing .there tape) budgets′
+      → (before before′ : List ℕ) (runs runs′ : List Run)
+      → doneAfter n plan l before tape runs ≡ suc (suc s)
+      → doneAfter n plan l′ before′ (pairing .there tape) runs′ ≡ suc (suc s)
+      → wordAfter n plan s l before tape runs ≡ wordAfter n plan s l′ before′ (pairing .there tape) runs′
 
 -- some share number: for any two starts that agree in that share, step s is hidden. The starts may differ in all else.
 pub record Secret (n : ℕ) (plan : List ℕ) (s : ℕ) : Type 0 where

@@ -1,4 +1,4 @@
--- Document 01's section "Translation for n shares", in its order, with document 02's No. 4: AND wipes its scratch cells. "Steps below stand
+-- Document 01's section "Translation for n shares", in its order, with document 02's No. 4: AND wipes its scratch cells, and No. 7: the head. "Steps below stand
 -- in emission order, shares rising from 0, pairs i < j by i and then j."
 use mathlib.Core.Bool.{cond}
 use mathlib.Core.List.{List, [], _∷_, _++_, map}
@@ -9,6 +9,7 @@ use Rattle.word.specs.declared.step.Step.the-variants.{Const, Xor, And, Not, Sh
 use Rattle.word.specs.declared.step.Decoded.{Decoded}
 use Rattle.word.specs.declared.step.Decoded.the-variants.{Good, Bad}
 use Rattle.word.specs.Encoding.{planStep, wordOf}
+use Rattle.word.specs.Head.{headWord}
 use Rattle.word.specs.Layout.{cell, cellY, cellZ, cellT, cellU, helper}
 
 -- c numbers from s on
@@ -180,7 +181,11 @@ abbrev pub wordsFor : ℕ → Decoded → List ℕ
 wordsFor n (Good s) = map wordOf (translated n s)
 wordsFor n Bad = []
 
--- the share program of a plan: "Each plan word's translation .. begins where the last one ended."
+-- the share words of a plan: "Each plan word's translation .. begins where the last one ended."
 abbrev pub program : ℕ → List ℕ → List ℕ
 program n [] = []
 program n (w ∷ ws) = wordsFor n (planStep w) ++ program n ws
+
+-- document 02, No. 7: "Every share program now begins with a head word". What Translate writes; `program` is what follows the head.
+abbrev pub headed : ℕ → List ℕ → List ℕ
+headed n plan = headWord n ∷ program n plan

@@ -1,5 +1,5 @@
 // The share machine: words done in order on the cells, each taken apart into its step, RAND taking the next tape word. The calls above
-// check the whole program first; a bad word would do nothing, as in the definition.
+// check the whole program first. A head is no step and does nothing, as in the definition; nor would a bad word.
 ghost use mathlib.Core.Path.{_≡_};
 ghost use mathlib.Core.List.{[], _∷_};
 ghost use Prim.Native.Nat.{_+_, _≤_};
@@ -58,7 +58,7 @@ fn step_done(s: Step, tape: &[u64], t: usize, cells: &mut [u64]) -> usize
     }
 }
 
-// One word: a bad one does nothing.
+// One word: a head does nothing, nor does a bad word.
 fn word_done(w: u32, tape: &[u64], t: usize, cells: &mut [u64]) -> usize
     requires { ⌜ t + machine.rands (w ∷ []) ≤ length (now tape) ⌝ }
     requires { ⌜ length (now cells) ≡ 512 ⌝ }

@@ -1,3 +1,3 @@
-// Share run and one share step (run), and share runs in a row (in_a_row). masking's `specs/` has the definitions that the contracts cite.
-pub mod in_a_row;
+// Share run: the rest of its answer (rest), and the call (run). masking's `specs/` has the definitions that the contracts cite.
+pub mod rest;
 pub mod run;

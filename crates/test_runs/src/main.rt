@@ -18,8 +18,8 @@ const PLAN: [u32; 12] = [
     0x20281409,
 ];
 
-// More than the longest program here, with a budget of 0 among them.
-const BUDGETS: [usize; 11] = [1, 3, 0, 5, 17, 101, 999, 1, 2001, 3333, 7777];
+// More than the longest program here, with a budget of 0 among them. The runs at 4 and 8 are told another count, and so do nothing.
+const BUDGETS: [usize; 13] = [1, 3, 0, 5, 23, 17, 101, 999, 47, 1, 2001, 3333, 7777];
 
 // How many words of two slices differ, by place.
 fn different(a: &[u64], b: &[u64]) -> u64 {
@@ -95,7 +95,10 @@ fn line(n: usize, words: usize, tape: usize, split: u64, plain: u64, left: u64) 
 fn split_off(n: usize, program: &[u32], tape: &[u64], whole: &[u64]) -> u64 {
     let mut parts = [0u64; 512];
     test_words::fill(n as u64, &mut parts);
-    share_run::in_a_row::runs_in_a_row(program, 0, tape, 0, &BUDGETS, &mut parts);
+    let mut counts = [n; 13];
+    counts[4] = 9;
+    counts[8] = if n == 2 { 3 } else { 2 };
+    share_in_a_row::runs_in_a_row(program, 0, tape, 0, &counts, &BUDGETS, &mut parts);
     different(whole, &parts)
 }
 
@@ -115,7 +118,7 @@ fn plain_off(n: usize, whole: &[u64]) -> u64 {
 fn compare(n: usize, program: &[u32], tape: &[u64], words: usize) {
     let mut whole = [0u64; 512];
     test_words::fill(n as u64, &mut whole);
-    let answer = share_run::run::share_run(program, 0, tape, 0, words, &mut whole);
+    let answer = share_run::run::share_run(n, program, 0, tape, 0, words, &mut whole);
     line(
         n,
         answer.words,

@@ -2,40 +2,36 @@
 ghost use mathlib.Core.Path.{_≡_};
 ghost use Prim.Native.Nat.{_≤_};
 ghost use lib.ListN.{length};
-ghost use Rattle.word.specs.Layout.{lengthOf, tapeOf};
-ghost use Rattle.word.specs.Encoding.{kindOf};
 ghost use Rattle.translation.specs.Calls.{measureAnswer, measured};
 use checks::answer::Answer;
 use checks::plan::check_plan;
 use checks::share_count::is_share_count;
 use word::step_word::StepWord;
 
-// Share words that a plan word gives for n shares, by its kind.
-fn share_words(w: u32, n: u8) -> usize
-    ensures { λ r. ⌜ r ≡ lengthOf (kindOf w) n ⌝ }
-{
-    StepWord::length(StepWord::of(w).kind(), n)
-}
-
-// Tape words likewise.
-fn tape_words(w: u32, n: u8) -> usize
-    ensures { λ r. ⌜ r ≡ tapeOf (kindOf w) n ⌝ }
-{
-    StepWord::tape(StepWord::of(w).kind(), n)
-}
-
-// The sums over the plan's words.
+// The sums over the plan's words, and the head beside: every word gives a share word for each share and takes no tape, but AND and ADD give and take
+// more.
 fn counted(n: u8, plan: &[u32]) -> Answer
-    requires { ⌜ n ≤ 8 ⌝ }
+    requires { ⌜ (1 ≤ n) × (n ≤ 8) ⌝ }
     requires { ⌜ length (now plan) ≤ 2048 ⌝ }
     ensures { λ r. ⌜ r ≡ measured n (now (plan .entry)) ⌝ }
 {
-    let mut words = 0;
+    let each = n as usize;
+    let and_more = StepWord::length(StepWord::AND, n) - each;
+    let add_more = StepWord::length(StepWord::ADD, n) - each;
+    let and_tape = StepWord::tape(StepWord::AND, n);
+    let add_tape = StepWord::tape(StepWord::ADD, n);
+    let mut words = 1 + each * plan.len();
     let mut tape = 0;
     for i in 0..plan.len() {
-        let w = plan[i];
-        words += share_words(w, n);
-        tape += tape_words(w, n);
+        let kind = plan[i] >> StepWord::KIND_AT;
+        if kind == StepWord::AND {
+            words += and_more;
+            tape += and_tape;
+        }
+        if kind == StepWord::ADD {
+            words += add_more;
+            tape += add_tape;
+        }
     }
     Answer::done(words, tape)
 }

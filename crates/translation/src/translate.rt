@@ -1,23 +1,25 @@
-// Translate: writes a plan's share program.
+// Translate: writes a plan's share program, its head and then the words of each plan word.
 ghost use mathlib.Core.Path.{_≡_};
 ghost use mathlib.Core.List.{_++_};
-ghost use Prim.Native.Nat.{_≤_};
+ghost use Prim.Native.Nat.{_+_, _≤_};
 ghost use lib.ListN.{length, drop};
 ghost use Rattle.masking.specs.Foretold.{Accepted, foretoldWords};
-ghost use Rattle.masking.specs.Translation.{program};
+ghost use Rattle.masking.specs.Translation.{headed};
 ghost use Rattle.translation.specs.Calls.{translateAnswer, translateOut};
 ghost use Rattle.translation.specs.Tied.{TranslateTied};
 use crate::measure::measure;
 use checks::answer::Answer;
 use translation_word::plan_word;
+use word::step_word::StepWord;
 
-// Writes the words of each plan word where the last one's ended. The answer was given before, so that no word is bad.
+// Writes the head, and the words of each plan word where the last one's ended. The answer was given before, so that no word is bad.
 fn translate_words(n: u8, plan: &[u32], out: &mut [u32])
     requires { ⌜ Accepted n (now plan) ⌝ }
-    requires { ⌜ foretoldWords n (now plan) ≤ length (now out) ⌝ }
-    ensures { λ _. ⌜ now (out .exit) ≡ program n (now (plan .entry)) ++ drop (length (program n (now (plan .entry)))) (now (out .entry)) ⌝ }
+    requires { ⌜ 1 + foretoldWords n (now plan) ≤ length (now out) ⌝ }
+    ensures { λ _. ⌜ now (out .exit) ≡ headed n (now (plan .entry)) ++ drop (length (headed n (now (plan .entry)))) (now (out .entry)) ⌝ }
 {
-    let mut at = 0;
+    out[0] = StepWord::head(n);
+    let mut at = 1;
     for i in 0..plan.len() {
         let w = plan[i];
         at += plan_word(n, w, &mut out[at..]);

@@ -2,10 +2,10 @@
 use Prim.Native.Nat.{ℕ, _-_, _*_, _/_, _≤_, _<_}
 use native.Mathlib.Nat.{mul-le-mul-left}
 use mathlib.Core.Path.{_≡_, refl}
-use mathlib.Core.Bool.{Bool, true, false, cond, _&&_}
+use mathlib.Core.Bool.{Bool, true, false, not, cond, _&&_}
 use native.Mathlib.Omega.{arith}
 use lib.Dec.{eqb, leb}
-use borrow.Author.Tests.{leb-true}
+use borrow.Author.Tests.{leb-true, not-false}
 use Rattle.word.specs.Layout.{isShareCount, andLength, addLength, lengthOf, tapeOf, wordMax}
 
 pub square-lt : (n : ℕ) → n < 256 → n * n < 65536
@@ -28,6 +28,9 @@ share-range n e =
     both : (p q : Bool) → (p && q) ≡ true → (p ≡ true) × (q ≡ true)
     both true q h = (refl, h)
     both false q h = let z : _≡_ {A = ℕ} 0 1 = cc in absurd (omega arith)
+
+pub in-range : (n : ℕ) → not (isShareCount n) ≡ false → (2 ≤ n) × (n ≤ 8)
+in-range n e = share-range n (not-false (isShareCount n) e)
 
 module _ (n : ℕ) (most : n ≤ 8) where
   -- no plan word gives more than ADD's share words and tape words for eight shares

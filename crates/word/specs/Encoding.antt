@@ -75,7 +75,7 @@ kindNumber (Rand d) = 9
 abbrev pub inPlan : Step → Bool
 inPlan s = not (eqb (kindNumber s) 9) && within 32 s
 
--- "A share program has .. words of kinds 1..7 and 9, cells 0..511."
+-- "A share program has .. words of kinds 1..7 and 9, cells 0..511.": those behind its head (document 02, No. 7; see Head)
 abbrev pub inProgram : Step → Bool
 inProgram s = not (eqb (kindNumber s) 8) && within 512 s
 
@@ -88,7 +88,7 @@ held rule Bad = Bad
 unfoldable pub named : ℕ → Decoded
 named w = either (eqb (bit27 w) 0) (row (kindOf w) (fieldD w) (fieldA w) (fieldB w)) Bad
 
--- a word taken apart by a rule, by that of plans, and by that of share programs
+-- a word taken apart by a rule, by that of plans, and by that of a share program's words behind its head
 abbrev pub taken : (Step → Bool) → ℕ → Decoded
 taken rule w = held rule (named w)
 

@@ -1,4 +1,4 @@
--- Places and lengths, from document 01's sections "Step words" and "Translation for n shares" and document 02's No. 4: limits, share and
+-- Places and lengths, from document 01's sections "Step words" and "Translation for n shares" and document 02's No. 4 and No. 7: limits, share and
 -- scratch cells, and the words and tape words that a plan word of each kind translates to.
 use mathlib.Core.Bool.{Bool, cond, _&&_}
 use Prim.Native.Nat.{ℕ, _+_, _-_, _*_, _/_}
@@ -56,10 +56,14 @@ tapeOf k n = cond (eqb k 3) (2 * pairCount n) (cond (eqb k 8) (24 * pairCount n)
 abbrev pub planMax : ℕ
 planMax = 2048
 
--- the most share words that a plan word gives, and that a plan gives: "the longest share program 8,257,536 words" (document 02, No. 4, for
--- document 01's "A share program has 0..7,815,168 words")
+-- the most share words that a plan word gives, and that a plan gives, without the head: "the longest share program 8,257,536 words" (document
+-- 02, No. 4, for document 01's "A share program has 0..7,815,168 words")
 abbrev pub wordMax : ℕ
 wordMax = addLength mostShares
 
 abbrev pub programMax : ℕ
 programMax = planMax * wordMax
+
+-- with the head before it: "Lengths and the limit grow by one" (document 02, No. 7)
+abbrev pub headedMax : ℕ
+headedMax = 1 + programMax

@@ -2,7 +2,9 @@
 ghost use mathlib.Core.Path.{_≡_};
 ghost use Rattle.word.specs.Encoding as spec;
 ghost use Rattle.word.specs.Encoding.{kindOf, bit27, fieldD, fieldA, fieldB};
+ghost use Rattle.word.specs.Head.{headWord};
 ghost use Rattle.word.specs.Layout as layout;
+use crate::parts::put;
 use crate::parts::row;
 use crate::step::Decoded;
 
@@ -49,6 +51,9 @@ impl StepWord {
 
     pub const RAND: u32 = 9;
 
+    // No kind of step: a share program's first word has it.
+    pub const HEAD: u32 = 10;
+
     // The tape words that AND and ADD take for each pair of shares.
     pub const AND_TAPE: usize = 2;
 
@@ -60,6 +65,9 @@ impl StepWord {
     pub const WORD_MAX: usize = 60 * (8 * 8) + 21 * 8 + 24;
 
     pub const PROGRAM_MAX: usize = StepWord::PLAN_MAX * StepWord::WORD_MAX;
+
+    // With the head before it.
+    pub const HEADED_MAX: usize = StepWord::PROGRAM_MAX + 1;
 
     pub const REGISTERS: usize = 32;
 
@@ -129,6 +137,13 @@ impl StepWord {
         } else {
             Decoded::Bad
         }
+    }
+
+    // The head of a share program for n shares, 2..8.
+    pub fn head(n: u8) -> u32
+        ensures { λ r. ⌜ r ≡ headWord n ⌝ }
+    {
+        put(StepWord::HEAD, n as u16, 0, 0)
     }
 
     // Share i of register r.

@@ -1,6 +1,7 @@
-// Taking a step word apart by the rule of plans and by that of share programs: its step, or the finding that it is bad.
+// Taking a step word apart by the rule of plans and by that of share programs: its step, or the finding that it is bad. And whether it is a head.
 ghost use mathlib.Core.Path.{_≡_};
 ghost use Rattle.word.specs.Encoding.{planStep, programStep};
+ghost use Rattle.word.specs.Head.{isHead};
 use crate::rules::in_plan;
 use crate::rules::in_program;
 use word::step::Decoded;
@@ -37,4 +38,18 @@ pub fn program_step(w: StepWord) -> Decoded
     } else {
         Decoded::Bad
     }
+}
+
+// Whether a word is the head of a share program for some share count.
+pub fn is_head(w: StepWord) -> bool
+    ensures { λ r. ⌜ r ≡ isHead (w .bits) ⌝ }
+{
+    let n = w.d();
+    if n < 2 {
+        return false;
+    }
+    if 8 < n {
+        return false;
+    }
+    w.bits == StepWord::head(n as u8)
 }

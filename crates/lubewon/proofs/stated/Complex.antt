@@ -9,6 +9,7 @@ use lib.ListN.{length, getD, take, drop}
 use Rattle.checks.specs.Answers.{done}
 use Rattle.masking.specs.Translation.{program}
 use Rattle.masking.specs.Foretold.{foretoldTape}
+use Rattle.masking.specs.Runs.{Run, told}
 use Rattle.masking.specs.Secrecy.{Tape, Pairing, doneAfter, wordAfter}
 use Rattle.binary64.specs.Product.{product}
 use Rattle.binary64.specs.Sum.{sum}
@@ -108,15 +109,15 @@ module _ (n : ℕ) (before : List Act) (o : Operation) where
     call-hidden-pairing = h .pairing
 
     call-hidden-reached : (tape : List ℕ) → Tape (tapeFor n acts) tape
-        → (doneAfter n (planOf o) (begun a b s tape) (earlier tape) (part tape) (suc step ∷ []) ≡ suc step)
-        × (doneAfter n (planOf o) (begun a b s′ (there tape)) (earlier (there tape)) (part (there tape)) (suc step ∷ []) ≡ suc step)
+        → (doneAfter n (planOf o) (begun a b s tape) (earlier tape) (part tape) (told n (suc (suc step)) ∷ []) ≡ suc (suc step))
+        × (doneAfter n (planOf o) (begun a b s′ (there tape)) (earlier (there tape)) (part (there tape)) (told n (suc (suc step)) ∷ []) ≡ suc (suc step))
     call-hidden-reached = h .reached
 
-    call-hidden-equal : (tape : List ℕ) → Tape (tapeFor n acts) tape → (budgets budgets′ : List ℕ)
-        → doneAfter n (planOf o) (begun a b s tape) (earlier tape) (part tape) budgets ≡ suc step
-        → doneAfter n (planOf o) (begun a b s′ (there tape)) (earlier (there tape)) (part (there tape)) budgets′ ≡ suc step
-        → wordAfter n (planOf o) step (begun a b s tape) (earlier tape) (part tape) budgets
-        ≡ wordAfter n (planOf o) step (begun a b s′ (there tape)) (earlier (there tape)) (part (there tape)) budgets′
+    call-hidden-equal : (tape : List ℕ) → Tape (tapeFor n acts) tape → (runs runs′ : List Run)
+        → doneAfter n (planOf o) (begun a b s tape) (earlier tape) (part tape) runs ≡ suc (suc step)
+        → doneAfter n (planOf o) (begun a b s′ (there tape)) (earlier (there tape)) (part (there tape)) runs′ ≡ suc (suc step)
+        → wordAfter n (planOf o) step (begun a b s tape) (earlier tape) (part tape) runs
+        ≡ wordAfter n (planOf o) step (begun a b s′ (there tape)) (earlier (there tape)) (part (there tape)) runs′
     call-hidden-equal = h .equal
 
   -- a call in a list of acts: its answer and its result by itself, over its part of the tape

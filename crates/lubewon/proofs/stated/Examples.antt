@@ -7,15 +7,16 @@ use lib.ListN.{length, getD, take, replicate}
 use Rattle.word.specs.declared.step.Step.the-variants.{Const, Xor, And, Not, Shl, Add, Rand}
 use Rattle.word.specs.declared.step.Decoded.the-variants.{Good, Bad}
 use Rattle.word.specs.Encoding.{planStep, programStep, wordOf}
-use Rattle.checks.specs.Answers.{refused, badAt}
+use Rattle.checks.specs.Answers.{done, refused, badAt}
 use Rattle.plain.specs.Machine.{run}
 use Rattle.plain.specs.Call.{plainAnswer, plainCells}
 use Rattle.plain.specs.Examples.{WordExamples}
-use Rattle.masking.specs.Translation.{upFrom, program, translated}
+use Rattle.masking.specs.Translation.{upFrom, headed, translated}
 use Rattle.masking.specs.Machine.{randsOf}
-use Rattle.masking.specs.Runs.{standing, runAnswer, stepAnswer}
+use Rattle.masking.specs.Runs.{State, standing, told, runAnswer, stepAnswer}
 use Rattle.masking.specs.Examples.{TranslationExamples}
 use Rattle.translation.specs.Calls.{measureAnswer}
+use Rattle.add_head.specs.Conversion.{addHeadAnswer}
 use Rattle.split_join.specs.SplitJoin.{xorAll}
 use Rattle.fft_numbers.specs.Acts.{plainShares, flipped, flippedFirst}
 use Rattle.fft_numbers.specs.Complex.{complexRe, complexIm}
@@ -66,8 +67,11 @@ module _ (h : WordExamples) where
   word-too-few = h .too-few
 
 module _ (h : TranslationExamples) where
-  translation-listed : program 2 (0x20080001 ∷ []) ≡ 0x20080001 ∷ 0x20884021 ∷ []
+  translation-listed : headed 2 (0x20080001 ∷ []) ≡ 0xA0080000 ∷ 0x20080001 ∷ 0x20884021 ∷ []
   translation-listed = h .listed
+
+  translation-empty : headed 8 [] ≡ 0xA0200000 ∷ []
+  translation-empty = h .empty
 
   translation-share-0-apart : translated 2 (Const 3 700) ≡ Const 3 700 ∷ Const 35 0 ∷ []
   translation-share-0-apart = h .share-0-apart
@@ -168,11 +172,62 @@ module _ (h : TurnDowns) where
   turn-down-kind-0 : measureAnswer 2 (xorWord ∷ 0x00080001 ∷ []) ≡ badAt 1
   turn-down-kind-0 = h .kind-0
 
-  turn-down-cells-511 : runAnswer (xorWord ∷ []) [] (standing (replicate 511 0) 0 0) 1 ≡ refused 4
+  turn-down-cells-511 : runAnswer (0xA0080000 ∷ xorWord ∷ []) [] (standing (replicate 511 0) 0 0) (told 2 1) ≡ refused 4
   turn-down-cells-511 = h .cells-511
 
-  turn-down-place-3 : runAnswer (xorWord ∷ xorWord ∷ []) [] (standing (replicate 512 0) 3 0) 1 ≡ refused 5
+  turn-down-place-3 : runAnswer (0xA0080000 ∷ xorWord ∷ []) [] (standing (replicate 512 0) 3 0) (told 2 1) ≡ refused 5
   turn-down-place-3 = h .place-3
+
+  turn-down-told-nine : runAnswer [] [] (standing (replicate 511 0) 0 0) (told 9 1) ≡ refused 1
+  turn-down-told-nine = h .told-nine
+
+  turn-down-no-program : runAnswer [] [] (standing (replicate 511 0) 0 0) (told 2 1) ≡ refused 8
+  turn-down-no-program = h .no-program
+
+  turn-down-no-head : runAnswer (xorWord ∷ 0xA0080000 ∷ []) [] (standing (replicate 511 0) 1 0) (told 2 1) ≡ refused 8
+  turn-down-no-head = h .no-head
+
+  turn-down-other-count : runAnswer (0xA00C0000 ∷ 0 ∷ []) [] (standing (replicate 511 0) 0 0) (told 2 1) ≡ refused 8
+  turn-down-other-count = h .other-count
+
+  turn-down-count-of-nine : runAnswer (0xA0240000 ∷ []) [] (standing (replicate 511 0) 0 0) (told 2 1) ≡ refused 8
+  turn-down-count-of-nine = h .count-of-nine
+
+  turn-down-second-head : runAnswer (0xA0080000 ∷ 0xA0080000 ∷ []) [] (standing (replicate 511 0) 0 0) (told 2 1) ≡ badAt 1
+  turn-down-second-head = h .second-head
+
+  turn-down-too-long : (program tape : List ℕ) (st : State) (budget : ℕ) → 8257537 < length program → runAnswer program tape st (told 2 budget) ≡ refused 2
+  turn-down-too-long = h .too-long
+
+  turn-down-just-head : runAnswer (0xA0080000 ∷ xorWord ∷ []) [] (standing (replicate 512 0) 0 0) (told 2 1) ≡ done 1 0
+  turn-down-just-head = h .just-head
+
+  turn-down-step-of-head : stepAnswer 0xA0080000 [] (replicate 512 0) 0 ≡ done 1 0
+  turn-down-step-of-head = h .step-of-head
+
+  turn-down-step-of-nine : stepAnswer 0xA0240000 [] (replicate 512 0) 0 ≡ badAt 0
+  turn-down-step-of-nine = h .step-of-nine
+
+  turn-down-step-on-511 : stepAnswer 0xA0080000 [] (replicate 511 0) 0 ≡ refused 4
+  turn-down-step-on-511 = h .step-on-511
+
+  turn-down-step-past-tape : stepAnswer 0xA0080000 [] (replicate 512 0) 1 ≡ refused 5
+  turn-down-step-past-tape = h .step-past-tape
+
+  turn-down-nothing-stored : addHeadAnswer 2 [] 1 ≡ done 1 0
+  turn-down-nothing-stored = h .nothing-stored
+
+  turn-down-head-stored : addHeadAnswer 2 (0xA0080000 ∷ xorWord ∷ []) 3 ≡ badAt 0
+  turn-down-head-stored = h .head-stored
+
+  turn-down-stored-for-nine : addHeadAnswer 9 (0xA0080000 ∷ []) 0 ≡ refused 1
+  turn-down-stored-for-nine = h .stored-for-nine
+
+  turn-down-no-room : addHeadAnswer 2 (xorWord ∷ []) 1 ≡ refused 4
+  turn-down-no-room = h .no-room
+
+  turn-down-stored-too-long : (stored : List ℕ) (room : ℕ) → 8257536 < length stored → addHeadAnswer 2 stored room ≡ refused 2
+  turn-down-stored-too-long = h .stored-too-long
 
   turn-down-empty-tape : stepAnswer 0x90000000 [] (replicate 512 0) 0 ≡ refused 6
   turn-down-empty-tape = h .empty-tape
@@ -206,9 +261,10 @@ module _ (C : Claims) where
   long-inputs : (input : List ℕ) → 8193 < length input → listing (take 8194 input) ≡ listing input
   long-inputs = C .long-inputs
 
-  -- "shares 2 words 2 tape 0", "20080001", "20884021"
+  -- "shares 2 words 3 tape 0", "A0080000", "20080001", "20884021"
   example : listing (0x02 ∷ 0x01 ∷ 0x00 ∷ 0x08 ∷ 0x20 ∷ [])
-      ≡ (115 ∷ 104 ∷ 97 ∷ 114 ∷ 101 ∷ 115 ∷ 32 ∷ 50 ∷ 32 ∷ 119 ∷ 111 ∷ 114 ∷ 100 ∷ 115 ∷ 32 ∷ 50 ∷ 32 ∷ 116 ∷ 97 ∷ 112 ∷ 101 ∷ 32 ∷ 48 ∷ 10 ∷ [])
+      ≡ (115 ∷ 104 ∷ 97 ∷ 114 ∷ 101 ∷ 115 ∷ 32 ∷ 50 ∷ 32 ∷ 119 ∷ 111 ∷ 114 ∷ 100 ∷ 115 ∷ 32 ∷ 51 ∷ 32 ∷ 116 ∷ 97 ∷ 112 ∷ 101 ∷ 32 ∷ 48 ∷ 10 ∷ [])
+      ++ ((65 ∷ 48 ∷ 48 ∷ 56 ∷ 48 ∷ 48 ∷ 48 ∷ 48 ∷ 10 ∷ [])
       ++ ((50 ∷ 48 ∷ 48 ∷ 56 ∷ 48 ∷ 48 ∷ 48 ∷ 49 ∷ 10 ∷ [])
-      ++ (50 ∷ 48 ∷ 56 ∷ 56 ∷ 52 ∷ 48 ∷ 50 ∷ 49 ∷ 10 ∷ []))
+      ++ (50 ∷ 48 ∷ 56 ∷ 56 ∷ 52 ∷ 48 ∷ 50 ∷ 49 ∷ 10 ∷ [])))
   example = C .example

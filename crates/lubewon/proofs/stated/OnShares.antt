@@ -1,14 +1,15 @@
 -- The claims on the operations on shares and on split and join, field by field: what is narrowed, halved or asks for more fails here.
 use mathlib.Core.Path.{_≡_}
-use mathlib.Core.List.{List}
+use mathlib.Core.List.{List, _∷_}
 use Prim.Native.Nat.{ℕ, suc, _≤_, _<_}
 use lib.ListN.{length, getD, take}
 use Rattle.word.specs.Encoding.{fieldD}
+use Rattle.word.specs.Head.{headWord}
 use Rattle.checks.specs.Answers as answers
 use Rattle.masking.specs.Translation.{program}
 use Rattle.masking.specs.Foretold.{foretoldTape}
 use Rattle.masking.specs.Machine.{Start, exec}
-use Rattle.masking.specs.Runs.{standing, runAnswer}
+use Rattle.masking.specs.Runs.{standing, told, runAnswer}
 use Rattle.masking.specs.Secrecy.{Hidden}
 use Rattle.binary64.specs.Product.{product}
 use Rattle.binary64.specs.Sum.{sum}
@@ -22,7 +23,7 @@ use Rattle.plans.specs.words.SumPlan.{sumPlan}
 use Rattle.plans.specs.words.FloorPlan.{floorPlan}
 use Rattle.plans.specs.words.TruncatePlan.{truncatePlan}
 use Rattle.plans.specs.words.NearestPlan.{nearestPlan}
-use Rattle.masked_call.specs.Shares.{callAnswer, placed, placedOver, resultAfter, resultShares}
+use Rattle.masked_call.specs.Shares.{callAnswer, finished, placed, placedOver, resultAfter, resultShares}
 use Rattle.masked_call.specs.WholeRun.{WholeRun}
 use Rattle.operations.specs.Masked.{Operand, StepSecret, OnShares}
 use Rattle.split_join.specs.SplitJoin.{xorAll, splitOf, splitAnswer, splitOut, joinedWord, SplitJoins}
@@ -31,12 +32,15 @@ use Rattle.lubewon.proofs.stated.Conditions.{AllWords}
 
 module _ {plan : List ℕ} {n : ℕ} {x y tape : List ℕ} (h : WholeRun plan n x y tape) where
   whole-run-done : foretoldTape n plan ≤ length tape
-      → runAnswer (program n plan) tape (standing (placed x y) 0 0) (length (program n plan)) ≡ answers.done (length (program n plan)) (foretoldTape n plan)
+      → runAnswer (headWord n ∷ program n plan) tape (standing (placed x y) 0 0) (told n (suc (length (program n plan)))) ≡ answers.done (suc (length (program n plan))) (foretoldTape n plan)
   whole-run-done = h .done
 
   whole-run-short : length tape < foretoldTape n plan
-      → runAnswer (program n plan) tape (standing (placed x y) 0 0) (length (program n plan)) ≡ answers.refused 6
+      → runAnswer (headWord n ∷ program n plan) tape (standing (placed x y) 0 0) (told n (suc (length (program n plan)))) ≡ answers.refused 6
   whole-run-short = h .short
+
+  whole-run-cells : foretoldTape n plan ≤ length tape → finished plan n x y tape ≡ exec (program n plan) tape (placed x y)
+  whole-run-cells = h .cells
 
 module _ {plan : List ℕ} {n s : ℕ} (h : StepSecret plan n s) where
   step-secret-share : ℕ

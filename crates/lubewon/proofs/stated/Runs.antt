@@ -1,24 +1,25 @@
 -- The claims on translations and share runs, field by field, over the machines' own definitions: counts, demand 3, what Translate writes, what a plan
 -- reads, and the two wrong translations. What is narrowed, halved or asks for more fails here.
 use mathlib.Core.Path.{_≡_}
-use mathlib.Core.Bool.{Bool, _||_}
+use mathlib.Core.Bool.{Bool, _||_, _&&_, cond}
 use mathlib.Core.Logic.{_⊎_, inl, inr}
 use mathlib.Core.List.{List, [], _∷_, _++_}
 use Prim.Native.Nat.{ℕ, zero, suc, _+_, _-_, _*_, _≤_, _<_, min}
 use native.Mathlib.Omega.{arith}
-use lib.Dec.{T, eqb}
+use lib.Dec.{T, leb, eqb}
 use lib.ListN.{length, getD, take, drop}
 use Rattle.bits.specs.Ops.{notW}
 use Rattle.word.specs.declared.step.Step.{Step}
 use Rattle.word.specs.Encoding.{kindOf, kindNumber, fieldD, programStep, inPlan, inProgram}
 use Rattle.word.specs.Table.{naming}
-use Rattle.word.specs.Layout.{lengthOf, tapeOf, programMax}
+use Rattle.word.specs.Layout.{lengthOf, tapeOf, programMax, headedMax}
+use Rattle.word.specs.Head.{headWord}
 use Rattle.checks.specs.Answers as answers
 use Rattle.plain.specs.Machine.{run}
 use Rattle.masking.specs.Translation.{scratch, scratchCells, translated, program}
 use Rattle.masking.specs.Foretold.{Accepted, foretoldWords, foretoldTape}
 use Rattle.masking.specs.Machine.{Start, exec, execSteps, rands, randsOf}
-use Rattle.masking.specs.Runs.{State, standing, runAnswer, moved, inARow, wordsDone, tapeUsed}
+use Rattle.masking.specs.Runs.{State, Run, standing, runAnswer, moved, inARow, wordsDone, tapeUsed}
 use Rattle.masking.specs.Unsplit.{joined, unsplit}
 use Rattle.masking.specs.Counts.{usedCell, allOf, StepCounts, PlanCounts, Counts}
 use Rattle.masking.specs.Wiped.{holdsAndOrAdd, Wiped}
@@ -78,19 +79,26 @@ module _ (h : Counts) where
   counts-limit : programMax ≡ 8257536
   counts-limit = h .limit
 
+  counts-headed-limit : headedMax ≡ 8257537
+  counts-headed-limit = h .headed-limit
+
   counts-scratch : (n : ℕ) → length (scratchCells scratch n) ≡ 2 * n + 2
   counts-scratch = h .scratch-count
 
 -- ---- demand 3
 
--- each run: 6 where its words hold more RAND than tape remains, and nothing moves; else the smaller of budget and words left
-module _ {P tape : List ℕ} {st : State} {b : ℕ} (h : EachRun P tape st b) where
-  each-run-short : length tape - st .tapePlace < rands (take b (drop (st .place) P))
-      → (runAnswer P tape st b ≡ answers.refused 6) × (moved P tape st b ≡ st)
+-- each run: 1 or 8 where it is told another count, and nothing moves; 6 where its words hold more RAND than tape remains, and nothing moves; else the
+-- smaller of budget and words left
+module _ {n : ℕ} {P tape : List ℕ} {st : State} {r : Run} (h : EachRun n P tape st r) where
+  each-run-other : (r .count ≡ n → ⊥) → (runAnswer P tape st r ≡ answers.refused (cond (leb 2 (r .count) && leb (r .count) 8) 8 1)) × (moved P tape st r ≡ st)
+  each-run-other = h .other
+
+  each-run-short : r .count ≡ n → length tape - st .tapePlace < rands (take (r .budget) (drop (st .place) P))
+      → (runAnswer P tape st r ≡ answers.refused 6) × (moved P tape st r ≡ st)
   each-run-short = h .short
 
-  each-run-else : rands (take b (drop (st .place) P)) ≤ length tape - st .tapePlace
-      → runAnswer P tape st b ≡ answers.done (min b (length P - st .place)) (rands (take b (drop (st .place) P)))
+  each-run-else : r .count ≡ n → rands (take (r .budget) (drop (st .place) P)) ≤ length tape - st .tapePlace
+      → runAnswer P tape st r ≡ answers.done (min (r .budget) (length P - st .place)) (rands (take (r .budget) (drop (st .place) P)))
   each-run-else = h .else
 
 -- AND's scratch cells
@@ -117,56 +125,65 @@ holds (w ∷ ws) (suc j) l h = or-right (eqb (kindOf w) 3 || eqb (kindOf w) 8) (
 -- a list of runs: the cells and places after it, its sums, joined registers, wiped scratch cells, and tape enough
 module _ (n : ℕ) (plan start tape : List ℕ) (place : ℕ) where
   abbrev P : List ℕ
-  P = program n plan
+  P = headWord n ∷ program n plan
 
-  abbrev after : List ℕ → State
-  after bs = inARow P tape (standing start 0 place) bs
+  abbrev after : List Run → State
+  after rs = inARow P tape (standing start 0 place) rs
 
-  abbrev m : List ℕ → ℕ
-  m bs = wordsDone P tape (standing start 0 place) bs
+  abbrev m : List Run → ℕ
+  m rs = wordsDone P tape (standing start 0 place) rs
 
-  abbrev used : List ℕ → ℕ
-  used bs = tapeUsed P tape (standing start 0 place) bs
+  abbrev used : List Run → ℕ
+  used rs = tapeUsed P tape (standing start 0 place) rs
 
-  module _ (bs : List ℕ) (h : InARow n plan start tape place bs) where
-    in-a-row-each : (before rest : List ℕ) (b : ℕ) → bs ≡ before ++ (b ∷ rest) → EachRun P tape (after before) b
+  module _ (rs : List Run) (h : InARow n plan start tape place rs) where
+    in-a-row-each : (before rest : List Run) (r : Run) → rs ≡ before ++ (r ∷ rest) → EachRun n P tape (after before) r
     in-a-row-each = h .each
 
-    in-a-row-cells : after bs .cells ≡ exec (take (m bs) P) (drop place tape) start
+    in-a-row-cells : after rs .cells ≡ exec (take (m rs) P) (drop place tape) start
     in-a-row-cells = h .cells
 
-    in-a-row-rand : used bs ≡ rands (take (m bs) P)
+    in-a-row-rand : used rs ≡ rands (take (m rs) P)
     in-a-row-rand = h .rand
 
-    in-a-row-size : length (after bs .cells) ≡ 512
+    in-a-row-size : length (after rs .cells) ≡ 512
     in-a-row-size = h .size
 
-    in-a-row-place : after bs .place ≡ m bs
+    in-a-row-place : after rs .place ≡ m rs
     in-a-row-place = h .place
 
-    in-a-row-tape-moved : after bs .tapePlace ≡ place + used bs
+    in-a-row-tape-moved : after rs .tapePlace ≡ place + used rs
     in-a-row-tape-moved = h .tapeMoved
 
-    in-a-row-joins : (k : ℕ) → m bs ≡ length (program n (take k plan)) → (r : ℕ) → r < 32
-        → joined n (after bs .cells) r ≡ getD (run (take k plan) (unsplit n start)) r 0
+    in-a-row-joins : (k : ℕ) → m rs ≡ suc (length (program n (take k plan))) → (r : ℕ) → r < 32
+        → joined n (after rs .cells) r ≡ getD (run (take k plan) (unsplit n start)) r 0
     in-a-row-joins = h .joins
 
-    in-a-row-foretold : (k : ℕ) → m bs ≡ length (program n (take k plan)) → used bs ≡ foretoldTape n (take k plan)
+    in-a-row-foretold : (k : ℕ) → m rs ≡ suc (length (program n (take k plan))) → used rs ≡ foretoldTape n (take k plan)
     in-a-row-foretold = h .foretold
 
-    in-a-row-wiped-whole : m bs ≡ length P → T (holdsAndOrAdd plan) → Wiped n (after bs .cells)
+    in-a-row-none : m rs ≡ 0 → after rs .cells ≡ start
+    in-a-row-none = h .none
+
+    in-a-row-none-joins : m rs ≡ 0 → (r : ℕ) → r < 32 → joined n (after rs .cells) r ≡ getD (unsplit n start) r 0
+    in-a-row-none-joins = h .none-joins
+
+    in-a-row-none-used : m rs ≡ 0 → used rs ≡ 0
+    in-a-row-none-used = h .none-used
+
+    in-a-row-wiped-whole : m rs ≡ length P → T (holdsAndOrAdd plan) → Wiped n (after rs .cells)
     in-a-row-wiped-whole = h .wiped-whole
 
-    in-a-row-wiped : (k : ℕ) → m bs ≡ length (program n (take k plan)) → T (holdsAndOrAdd (take k plan)) → Wiped n (after bs .cells)
+    in-a-row-wiped : (k : ℕ) → m rs ≡ suc (length (program n (take k plan))) → T (holdsAndOrAdd (take k plan)) → Wiped n (after rs .cells)
     in-a-row-wiped = h .wiped
 
-    in-a-row-enough : foretoldTape n plan ≤ length tape - place → (before rest : List ℕ) (b : ℕ) → bs ≡ before ++ (b ∷ rest)
-        → runAnswer P tape (after before) b .number ≡ 0
+    in-a-row-enough : foretoldTape n plan ≤ length tape - place → (before rest : List Run) (r : Run) → rs ≡ before ++ (r ∷ rest)
+        → r .count ≡ n → runAnswer P tape (after before) r .number ≡ 0
     in-a-row-enough = h .enough
 
 module _ {n : ℕ} {plan : List ℕ} (h : Demand3 n plan) where
   demand3-runs : (start tape : List ℕ) → Start start → AllWords tape → (place : ℕ) → place ≤ length tape
-      → (budgets : List ℕ) → InARow n plan start tape place budgets
+      → (list : List Run) → InARow n plan start tape place list
   demand3-runs = h .runs
 
   demand3-secret : (s : ℕ) → s < length (program n plan) → Secret n plan s
@@ -178,7 +195,7 @@ module _ {n : ℕ} {plan out : List ℕ} (h : Tied n plan out) where
   tied-accepted : Accepted n plan
   tied-accepted = h .accepted
 
-  tied-written : take (translateAnswer n plan (length out) .words) (translateOut n plan out) ≡ program n plan
+  tied-written : take (translateAnswer n plan (length out) .words) (translateOut n plan out) ≡ headWord n ∷ program n plan
   tied-written = h .written
 
   tied-demand3 : Demand3 n plan
@@ -188,7 +205,7 @@ module _ (h : TranslateTied) where
   translate-tied-done : (n : ℕ) (plan out : List ℕ) → translateAnswer n plan (length out) .number ≡ 0 → Tied n plan out
   translate-tied-done = h .done
 
-  translate-tied-takes : (n : ℕ) (plan : List ℕ) (room : ℕ) → Accepted n plan → foretoldWords n plan ≤ room
+  translate-tied-takes : (n : ℕ) (plan : List ℕ) (room : ℕ) → Accepted n plan → 1 + foretoldWords n plan ≤ room
       → translateAnswer n plan room ≡ measured n plan
   translate-tied-takes = h .takes
 

@@ -1,14 +1,15 @@
 -- The claims on secrecy, field by field, over the machines' own definitions: paired tapes, a step's word over them, agreement kept, and the AND that
 -- leaks. What is narrowed, halved or asks for more fails here.
 use mathlib.Core.Path.{_≡_}
-use mathlib.Core.List.{List, _++_}
+use mathlib.Core.List.{List, _∷_, _++_}
 use Prim.Native.Nat.{ℕ, suc, _<_}
 use lib.ListN.{length, getD}
 use Rattle.word.specs.Encoding.{fieldD}
+use Rattle.word.specs.Head.{headWord}
 use Rattle.masking.specs.Translation.{program}
 use Rattle.masking.specs.Foretold.{Accepted, foretoldTape}
 use Rattle.masking.specs.Machine.{Start, exec, execSteps}
-use Rattle.masking.specs.Runs.{State, standing, inARow, wordsDone}
+use Rattle.masking.specs.Runs.{State, Run, standing, inARow, wordsDone}
 use Rattle.masking.specs.Secrecy.{Tape, Pairing, Hidden, Secret}
 use Rattle.masking.specs.Kept.{EndsAgree}
 use Rattle.masking.specs.Leaks.{unrefreshed, Leak}
@@ -36,20 +37,20 @@ module _ {L : ℕ} (h : Pairing L) where
 
 -- a step's word, over paired tapes: equal, wherever the lists of runs end with that step
 module _ (n : ℕ) (plan : List ℕ) where
-  abbrev ran : List ℕ → List ℕ → List ℕ → List ℕ → State
-  ran c before tape budgets = inARow (program n plan) (before ++ tape) (standing c 0 (length before)) budgets
+  abbrev ran : List ℕ → List ℕ → List ℕ → List Run → State
+  ran c before tape runs = inARow (headWord n ∷ program n plan) (before ++ tape) (standing c 0 (length before)) runs
 
-  abbrev words : List ℕ → List ℕ → List ℕ → List ℕ → ℕ
-  words c before tape budgets = wordsDone (program n plan) (before ++ tape) (standing c 0 (length before)) budgets
+  abbrev words : List ℕ → List ℕ → List ℕ → List Run → ℕ
+  words c before tape runs = wordsDone (headWord n ∷ program n plan) (before ++ tape) (standing c 0 (length before)) runs
 
   module _ (s : ℕ) (l l′ : List ℕ) (h : Hidden n plan s l l′) where
     hidden-pairing : Pairing (foretoldTape n plan)
     hidden-pairing = h .pairing
 
-    hidden-equal : (tape : List ℕ) → Tape (foretoldTape n plan) tape → (before before′ budgets budgets′ : List ℕ)
-        → words l before tape budgets ≡ suc s → words l′ before′ (h .pairing .there tape) budgets′ ≡ suc s
-        → getD (ran l before tape budgets .cells) (fieldD (getD (program n plan) s 0)) 0
-        ≡ getD (ran l′ before′ (h .pairing .there tape) budgets′ .cells) (fieldD (getD (program n plan) s 0)) 0
+    hidden-equal : (tape : List ℕ) → Tape (foretoldTape n plan) tape → (before before′ : List ℕ) (runs runs′ : List Run)
+        → words l before tape runs ≡ suc (suc s) → words l′ before′ (h .pairing .there tape) runs′ ≡ suc (suc s)
+        → getD (ran l before tape runs .cells) (fieldD (getD (program n plan) s 0)) 0
+        ≡ getD (ran l′ before′ (h .pairing .there tape) runs′ .cells) (fieldD (getD (program n plan) s 0)) 0
     hidden-equal = h .equal
 
 module _ {n : ℕ} {plan : List ℕ} {s : ℕ} (h : Secret n plan s) where

@@ -141,4 +141,12 @@ plan-counts n plan A =
 
 pub counts : Counts
 unfolding lengthOf tapeOf
-counts = record { step = step-counts; plan = plan-counts; at-2 = (refl, refl, refl, refl); at-8 = (refl, refl, refl, refl); limit = refl; scratch-count = scratch-count scratch }
+counts = record {
+  step = step-counts;
+  plan = plan-counts;
+  at-2 = (refl, refl, refl, refl);
+  at-8 = (refl, refl, refl, refl);
+  limit = refl;
+  headed-limit = refl;
+  scratch-count = scratch-count scratch;
+}

@@ -10,7 +10,7 @@ use Rattle.listing.proofs.pieces.list_piece.Tie as tie
 returns : tie.Need-returns
 returns c =
     let w = c .before .before .before .before .before .before .listed-words .ensures in
-    first-piece (c .before .before .before .before .if1 .taken) (all-given w (listed-most _)) (c .before .before .head .ensures)
+    first-piece (c .before .before .before .before .if1 .taken) (all-given w (listed-most _)) (c .before .before .opening .ensures)
 
 array-share-prefix-plan : tie.Need-array-share-prefix-plan
 array-share-prefix-plan c = counts (c .before .before .before .listed-words .ensures) .0

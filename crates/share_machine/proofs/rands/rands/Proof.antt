@@ -29,8 +29,8 @@ loop-again c =
     let i = c .before .before .before .loop .i in
     let turn = rands-turn words i (omega arith) in
     let g = c .before .before .before .before .pre i (omega arith) in
-    ⊎-elim (λ w. (omega arith, refl, omega arith, omega (arith, takes-rand (getD words i 0) g (w .0 .taken))))
-    (λ w. (omega arith, refl, omega arith, omega (arith, takes-none (getD words i 0) g (w .0 .left)))) (c .if1 .came)
+    ⊎-elim (λ w. (omega arith, refl, omega arith, omega (arith, takes-rand (getD words i 0) (g (w .0 .taken)) (w .0 .taken))))
+    (λ w. (omega arith, refl, omega arith, omega (arith, takes-none (getD words i 0) (w .0 .left)))) (c .if1 .came)
 
 returns : tie.Need-returns Inv-loop μ-loop
 returns c =

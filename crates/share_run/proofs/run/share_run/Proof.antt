@@ -16,43 +16,43 @@ use Rattle.share_run.proofs.run.share_run.Tie as tie
 add-end : tie.Need-add-end
 add-end c =
     let a = c .before .before .before .before .before .before .before .before .args in
-    let r = ready (now (a .program)) (now (a .tape)) (standing (now (a .cells)) (a .place) (a .tape-place)) (a .budget) _ (c .before .before .before .run-answer .ensures) (c .before .if1 .taken) in
+    let r = ready (a .n) (now (a .program)) (now (a .tape)) (standing (now (a .cells)) (a .place) (a .tape-place)) (a .budget) _ (c .before .before .before .run-answer .ensures) (c .before .if1 .taken) in
     omega (arith, r .rest .within, r .words)
 
 mul-exec : tie.Need-mul-exec
 mul-exec c =
     let a = c .before .before .before .before .before .before .before .before .args in
-    let r = ready (now (a .program)) (now (a .tape)) (standing (now (a .cells)) (a .place) (a .tape-place)) (a .budget) _ (c .before .before .before .run-answer .ensures) (c .before .if1 .taken) in
+    let r = ready (a .n) (now (a .program)) (now (a .tape)) (standing (now (a .cells)) (a .place) (a .tape-place)) (a .budget) _ (c .before .before .before .run-answer .ensures) (c .before .if1 .taken) in
     omega (arith, r .rest .within, r .words)
 
 part-exec-end : tie.Need-part-exec-end
 part-exec-end c =
     let a = c .before .before .before .before .before .before .before .before .args in
-    let r = ready (now (a .program)) (now (a .tape)) (standing (now (a .cells)) (a .place) (a .tape-place)) (a .budget) _ (c .before .before .before .run-answer .ensures) (c .before .if1 .taken) in
+    let r = ready (a .n) (now (a .program)) (now (a .tape)) (standing (now (a .cells)) (a .place) (a .tape-place)) (a .budget) _ (c .before .before .before .run-answer .ensures) (c .before .if1 .taken) in
     omega (arith, r .rest .within, r .words)
 
 mul-exec-2 : tie.Need-mul-exec-2
 mul-exec-2 c =
     let a = c .before .before .before .before .before .before .before .before .before .args in
-    let r = ready (now (a .program)) (now (a .tape)) (standing (now (a .cells)) (a .place) (a .tape-place)) (a .budget) _ (c .before .before .before .before .run-answer .ensures) (c .before .before .if1 .taken) in
+    let r = ready (a .n) (now (a .program)) (now (a .tape)) (standing (now (a .cells)) (a .place) (a .tape-place)) (a .budget) _ (c .before .before .before .before .run-answer .ensures) (c .before .before .if1 .taken) in
     omega (arith, r .rest .inTape)
 
 sub-exec-2 : tie.Need-sub-exec-2
 sub-exec-2 c =
     let a = c .before .before .before .before .before .before .before .before .before .args in
-    let r = ready (now (a .program)) (now (a .tape)) (standing (now (a .cells)) (a .place) (a .tape-place)) (a .budget) _ (c .before .before .before .before .run-answer .ensures) (c .before .before .if1 .taken) in
+    let r = ready (a .n) (now (a .program)) (now (a .tape)) (standing (now (a .cells)) (a .place) (a .tape-place)) (a .budget) _ (c .before .before .before .before .run-answer .ensures) (c .before .before .if1 .taken) in
     omega (arith, r .rest .inTape)
 
 part-exec-start-2 : tie.Need-part-exec-start-2
 part-exec-start-2 c =
     let a = c .before .before .before .before .before .before .before .before .before .args in
-    let r = ready (now (a .program)) (now (a .tape)) (standing (now (a .cells)) (a .place) (a .tape-place)) (a .budget) _ (c .before .before .before .before .run-answer .ensures) (c .before .before .if1 .taken) in
+    let r = ready (a .n) (now (a .program)) (now (a .tape)) (standing (now (a .cells)) (a .place) (a .tape-place)) (a .budget) _ (c .before .before .before .before .run-answer .ensures) (c .before .before .if1 .taken) in
     omega (arith, r .rest .inTape)
 
 exec-requires : tie.Need-exec-requires
 exec-requires c κs =
     let a = c .before .before .before .before .before .before .before .before .before .before .before .args in
-    let r = ready (now (a .program)) (now (a .tape)) (standing (now (a .cells)) (a .place) (a .tape-place)) (a .budget) _ (c .before .before .before .before .before .before .run-answer .ensures) (c .before .before .before .before .if1 .taken) in
+    let r = ready (a .n) (now (a .program)) (now (a .tape)) (standing (now (a .cells)) (a .place) (a .tape-place)) (a .budget) _ (c .before .before .before .before .before .before .run-answer .ensures) (c .before .before .before .before .if1 .taken) in
     let P = now (a .program) in
     let e : take (a .place + c .before .before .before .before .before .before .run-answer .result .words - a .place) (drop (a .place) P) ≡ due P (a .place) (a .budget) =
     ap (λ (k : ℕ). take (a .place + k - a .place) (drop (a .place) P)) (r .words) ∙ due-part P (a .place) (a .budget) in
@@ -61,7 +61,7 @@ exec-requires c κs =
 returns : tie.Need-returns
 returns c =
     let a = c .before .before .before .before .before .before .before .before .before .before .before .before .before .before .args in
-    let r = ready (now (a .program)) (now (a .tape)) (standing (now (a .cells)) (a .place) (a .tape-place)) (a .budget) _ (c .before .before .before .before .before .before .before .before .before .run-answer .ensures) (c .before .before .before .before .before .before .before .if1 .taken) in
+    let r = ready (a .n) (now (a .program)) (now (a .tape)) (standing (now (a .cells)) (a .place) (a .tape-place)) (a .budget) _ (c .before .before .before .before .before .before .before .before .before .run-answer .ensures) (c .before .before .before .before .before .before .before .if1 .taken) in
     let P = now (a .program) in
     let e : take (a .place + c .before .before .before .before .before .before .before .before .before .run-answer .result .words - a .place) (drop (a .place) P) ≡ due P (a .place) (a .budget) =
     ap (λ (k : ℕ). take (a .place + k - a .place) (drop (a .place) P)) (r .words) ∙ due-part P (a .place) (a .budget) in

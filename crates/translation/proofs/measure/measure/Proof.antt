@@ -8,7 +8,7 @@ use Rattle.word.specs.Layout.{planMax}
 use Rattle.checks.specs.Answers.{planChecked}
 use Rattle.checks.proofs.Checked.{plan-check, passed-check, stopped}
 use Rattle.translation.specs.Calls.{planFor}
-use Rattle.translation.proofs.Counted.{in-range}
+use Rattle.word.proofs.Small.{in-range}
 use Rattle.translation.proofs.measure.measure.Statement.{statement}
 use Rattle.translation.proofs.measure.measure.Tie as tie
 
@@ -28,7 +28,8 @@ cast-counted c = omega (arith, in-range (c .before .before .before .before .befo
 counted-requires : tie.Need-counted-requires
 counted-requires c κs =
     let p = passed-check planMax planStep planChecked plan-check _ _ (c .before .before .check-plan .ensures) (c .if2 .left) in
-    (in-range _ (sym (ap not (c .before .before .before .before .is-share-count .ensures)) ∙ c .before .before .before .if1 .left) .1, p .short)
+    let r = in-range (c .before .before .before .before .before .before .args .n) (sym (ap not (c .before .before .before .before .is-share-count .ensures)) ∙ c .before .before .before .if1 .left) in
+    ((omega (arith, r .0), r .1), p .short)
 
 returns-3 : tie.Need-returns-3
 unfolding planFor

@@ -1,0 +1,2 @@
+-- The check of a run's program (RunCheck).
+pub mod RunCheck
