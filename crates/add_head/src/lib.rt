@@ -1,4 +1,6 @@
 // Conversion of a stored share program that has no head: the head put before its words. `specs/` has the definitions that the contracts cite.
+#![tactic(auto)]
+
 ghost use Rattle.std.specs.Prelude.{◌≡◌, ◌∷◌, ◌++◌, ◌≤◌, ◌<◌, ◌+◌, length, drop};
 ghost use Rattle.word.specs.Head.{head_word};
 ghost use Rattle.add_head.specs.Conversion.{add_head_answer, add_head_out};

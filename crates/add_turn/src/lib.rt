@@ -1,4 +1,6 @@
 // Two of ADD's steps on its helper registers H, G, P and T: G = G XOR T; T = P SHL k.
+#![tactic(auto)]
+
 ghost use Rattle.std.specs.Prelude.{◌≡◌, [], ◌∷◌, ◌≤◌, ◌<◌, length};
 ghost use Rattle.masking.specs.Translation.{blocks, r_g, r_p, r_t, scratch};
 ghost use Rattle.word.specs.declared.step.Step.TheVariants.{Shl, Xor};

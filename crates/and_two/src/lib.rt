@@ -1,4 +1,6 @@
 // d = a AND b for two shares, in locals: no share of y and z is ever in its cell.
+#![tactic(auto)]
+
 ghost use Rattle.and_parts.specs.inner.Effects.{Ran};
 ghost use Rattle.and_many.specs.inner.Asked.{Asked, and_of};
 

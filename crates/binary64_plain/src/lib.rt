@@ -1,5 +1,7 @@
 // Product and sum of 64-bit words as document 01's numbers, on plain words. The roundings to a whole number are binary64_whole's.
 // Each is proved equal to its definition in binary64's specs/; none is ever turned down, and none branches on its operands (tests/constant_time).
+#![tactic(auto)]
+
 mod add;
 mod multiply;
 

@@ -1,5 +1,7 @@
 // Floor, truncation and nearest of 64-bit words as the documents' numbers, on plain words.
 // Each is proved equal to its definition in binary64's specs/; none is ever turned down, and none branches on its operands (tests/constant_time).
+#![tactic(auto)]
+
 mod whole;
 
 ghost use Rattle.std.specs.Prelude.{◌≡◌};

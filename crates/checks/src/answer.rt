@@ -5,7 +5,7 @@ ghost use Rattle.checks.specs.Answers as spec;
 // `number` is 0 for done, else the turn-down's number. `place` is the first bad word's for number 3, else 0. `words` and `tape` are
 // the call's counts, 0 when it is turned down.
 #[repr(C)]
-#[derive(Drop)]
+#[derive(Clone, Copy)]
 pub struct Answer {
     pub number: u32,
     pub place: usize,

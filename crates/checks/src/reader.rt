@@ -1,17 +1,15 @@
-// The plan reader: the lent plan and the number of the next word. A struct that holds a reference is outside what the borrow checker
-// covers, so the functions over it here only take it apart or make it, and reading is in functions of plain parameters. The search that keeps
-// a reader and advances it is `plan::plan_first_bad`.
+// The plan reader: the lent plan and the number of the next word. The search that keeps a reader and advances it is `plan::plan_first_bad`.
 ghost use Rattle.std.specs.Prelude.{◌≡◌, ◌+◌, ◌-◌, ◌<◌, ◌^◌, length};
 ghost use Rattle.checks.specs.Reader.{read_at};
 
-#[derive(Drop)]
+#[derive(Clone, Copy)]
 pub struct PlanReader<'a> {
     pub plan: &'a [u32],
     pub next: usize,
 }
 
 // What a reader finds: a word, or the plan's end.
-#[derive(Drop)]
+#[derive(Clone, Copy)]
 pub enum Read {
     Word(u32),
     End,

@@ -1,4 +1,6 @@
 // The check of a run's program: the reader's share count, the head, and the words behind it.
+#![tactic(auto)]
+
 ghost use Rattle.std.specs.Prelude.{◌≡◌};
 ghost use Rattle.checks.specs.Answers.{done};
 ghost use Rattle.checks_run.specs.RunCheck.{run_checked};

@@ -1,5 +1,7 @@
 // Written by tools/compile_plan.py: change the plan or the compiler, not this file.
 // The product's plan on n shares (done), by its runs (runs), and the call over it (calls, in_place).
+#![tactic(auto)]
+
 ghost use Rattle.std.specs.Prelude.{◌≡◌, ◌≤◌, length};
 ghost use Rattle.masking.specs.Machine.{steps_of};
 ghost use Rattle.masking.specs.Translation.{program};

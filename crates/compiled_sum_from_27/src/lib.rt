@@ -1,5 +1,7 @@
 // Written by tools/compile_plan.py: change the plan or the compiler, not this file.
 // The sum's plan on one share: its linear runs from number 27 on.
+#![tactic(auto)]
+
 ghost use Rattle.std.specs.Prelude.{◌≡◌, ◌≤◌, ◌<◌, get_or, length};
 ghost use Rattle.compiled.specs.inner.OnShare.{on_share_all};
 ghost use Rattle.compiled_sum_from_27.specs.inner.Runs.{last_run, runs};

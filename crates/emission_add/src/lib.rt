@@ -1,5 +1,7 @@
 // The share words of ADD, which is laid out in XOR, AND and SHL on registers. An inner crate of Translate: its functions ask for room and for
 // cells in range.
+#![tactic(auto)]
+
 ghost use Rattle.std.specs.Prelude.{◌≤◌, ◌<◌};
 ghost use Rattle.masking.specs.Translation as translation;
 ghost use Rattle.masking.specs.Translation.{block, scratch};

@@ -1,5 +1,7 @@
 // The share words of AND: its steps, and the wiping of its scratch cells. An inner crate of Translate: its functions ask for room and for cells in
 // range.
+#![tactic(auto)]
+
 ghost use Rattle.std.specs.Prelude.{◌≤◌};
 ghost use Rattle.masking.specs.Translation as translation;
 ghost use Rattle.masking.specs.Translation.{and_block, and_steps, scratch, scratch_cells};

@@ -1,4 +1,6 @@
 // What is written for pairs of shares, by templates: share i's word is share 0's and i times the same number more.
+#![tactic(auto)]
+
 ghost use Rattle.std.specs.Prelude.{◌≡◌, [], ◌∷◌, ◌+◌, ◌-◌, ◌*◌, ◌^◌, ◌≤◌, ◌<◌, length};
 ghost use Rattle.word.specs.declared.step.Step.TheVariants.{Xor, And};
 ghost use Rattle.word.specs.Encoding.{word_of};

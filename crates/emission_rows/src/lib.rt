@@ -1,4 +1,6 @@
 // What is written once per share, by templates: of the n words in a row each is the last one and the same number more.
+#![tactic(auto)]
+
 ghost use Rattle.std.specs.Prelude.{[], ◌∷◌, ◌+◌, ◌-◌, ◌≤◌, ◌<◌, length};
 ghost use Rattle.emission_rows.specs.inner.Written.{EachFits, Rises, Words, each_word, row_of};
 

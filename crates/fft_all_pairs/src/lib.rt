@@ -1,4 +1,6 @@
 // The pairs of a layer on shares, by rising place, over consecutive parts of the tape.
+#![tactic(auto)]
+
 ghost use Rattle.std.specs.Prelude.{◌≡◌, true, ◌*◌, ◌≤◌, length, replicate};
 ghost use Rattle.fft_numbers.specs.Calls.{layer_shares, layer_tape};
 ghost use Rattle.fft_numbers.specs.Layer.{block_count, is_layer};

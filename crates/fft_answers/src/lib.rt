@@ -1,4 +1,6 @@
 // The answers of the two calls, by lengths: the turn-downs in their order.
+#![tactic(auto)]
+
 ghost use Rattle.std.specs.Prelude.{◌≡◌};
 ghost use Rattle.fft_numbers.specs.Calls.{complex_answer, layer_answer};
 

@@ -1,4 +1,6 @@
 // Product and sum of numbers in slots, without check: the calls of which the complex product and a layer consist. They differ in the plan that is run.
+#![tactic(auto)]
+
 ghost use Rattle.binary64.specs.Operations.{Product, Sum};
 ghost use Rattle.fft_calls.specs.inner.Inner.{CallDone, CallReady};
 

@@ -1,5 +1,7 @@
 // A number's shares copied from one place to another, one by one. A secret number's lie a step apart on both sides, so that no instruction moves
 // two of them.
+#![tactic(auto)]
+
 ghost use Rattle.std.specs.Prelude.{◌≡◌, ◌≤◌, length};
 ghost use Rattle.fft_numbers.specs.Layout.{number_of};
 ghost use Rattle.fft_copies.specs.inner.Inner.{Apart, Inside, written};

@@ -1,5 +1,7 @@
 // Complex numbers on shares: the product, and one layer of the transform. What they give stands in fft_numbers's specs; they are made of the calls
 // on shares, checked once at the start, with numbers on the way in slots of the work slice.
+#![tactic(auto)]
+
 ghost use Rattle.std.specs.Prelude.{◌≡◌};
 ghost use Rattle.fft_numbers.specs.Calls.{complex_call_answer, complex_result, complex_work, layer_call_answer, layer_numbers, layer_work};
 ghost use Rattle.fft_numbers.specs.Holds.{Transforms};

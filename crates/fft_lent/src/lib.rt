@@ -1,4 +1,6 @@
 // The complex product between lent slices: its operands into slots, the six calls, and its result out of them.
+#![tactic(auto)]
+
 ghost use Rattle.std.specs.Prelude.{◌≡◌, ◌*◌, ◌≤◌, length, replicate};
 ghost use Rattle.fft_numbers.specs.Calls.{complex_shares, complex_start, complex_tape};
 ghost use Rattle.fft_slots.specs.inner.Inner.{HeldIn};

@@ -1,4 +1,6 @@
 // A pair of a layer taken from the lent words into slots, with its factor, and put back.
+#![tactic(auto)]
+
 ghost use Rattle.std.specs.Prelude.{◌≡◌, [], ◌+◌, ◌*◌, ◌≤◌, ◌<◌, length};
 ghost use Rattle.fft_numbers.specs.Layer.{pair_taken, put_back};
 ghost use Rattle.fft_slots.specs.inner.Inner.{Done};

@@ -1,4 +1,6 @@
 // One pair of a layer: taken into slots, the product with its factor, u plus and u minus, and put back.
+#![tactic(auto)]
+
 ghost use Rattle.std.specs.Prelude.{◌≡◌, ◌+◌, ◌*◌, ◌≤◌, ◌<◌, drop, length};
 ghost use Rattle.fft_numbers.specs.Acts.{tape_for};
 ghost use Rattle.fft_numbers.specs.Layer.{pair_acts, plus_minus};

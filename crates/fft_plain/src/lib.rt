@@ -1,4 +1,6 @@
 // Complex numbers on plain words: the product, and one layer of the transform. What they give stands in fft_numbers's specs.
+#![tactic(auto)]
+
 ghost use Rattle.std.specs.Prelude.{◌≡◌};
 ghost use Rattle.binary64.specs.Sum.{sum};
 ghost use Rattle.fft_numbers.specs.Acts.{flipped};

@@ -1,4 +1,6 @@
 // The complex product on slots: its six calls in order.
+#![tactic(auto)]
+
 ghost use Rattle.std.specs.Prelude.{◌≡◌, ◌+◌, ◌≤◌, drop, length};
 ghost use Rattle.fft_numbers.specs.Acts.{tape_for};
 ghost use Rattle.fft_numbers.specs.Complex.{complex_acts};

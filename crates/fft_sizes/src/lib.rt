@@ -1,4 +1,6 @@
 // The sizes of a layer, on plain words and on shares.
+#![tactic(auto)]
+
 ghost use Rattle.std.specs.Prelude.{◌≡◌};
 ghost use Rattle.fft_numbers.specs.Layer.{is_layer, is_power_of_two};
 

@@ -1,4 +1,6 @@
 // Slots in the work slice: numbers held beside the cells of share programs. Share i of slot k is cell 352 + 16 i + k.
+#![tactic(auto)]
+
 ghost use Rattle.std.specs.Prelude.{◌≡◌, ◌∷◌, [], ◌≤◌, ◌<◌, length};
 ghost use Rattle.masked_call.specs.Shares.{placed_in};
 ghost use Rattle.fft_numbers.specs.Acts.{Flip, Put};

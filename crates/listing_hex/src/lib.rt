@@ -1,4 +1,6 @@
 // The lines of share words: eight hexadecimal digits and a line feed each.
+#![tactic(auto)]
+
 ghost use Rattle.std.specs.Prelude.{◌≡◌, ◌<◌, ◌≤◌, length};
 ghost use Rattle.std.proofs.lemmas.List.Edits.{sets};
 ghost use Rattle.listing_lines.specs.Lines.{hex_digit, hex_line, hex_lines};

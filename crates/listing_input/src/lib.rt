@@ -1,4 +1,6 @@
 // The input bytes of `sharelist`: the share count, then plan words.
+#![tactic(auto)]
+
 ghost use Rattle.std.specs.Prelude.{◌≡◌, ◌+◌, ◌*◌};
 ghost use Rattle.listing_input.specs.Input.{count_of, list_answer, plan_read};
 ghost use Rattle.listing_lines.specs.Writing.{Wrote};

@@ -1,4 +1,6 @@
 // The lines of plan words, part by part: those of each word's share words.
+#![tactic(auto)]
+
 ghost use Rattle.listing_parts.specs.Parts.{ListsPart, word_lines};
 ghost use Rattle.listing_lines.specs.Writing.{Wrote};
 

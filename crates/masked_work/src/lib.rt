@@ -1,4 +1,6 @@
 // The work slice of a call over any plan: operands placed, the result copied out, and zeros again.
+#![tactic(auto)]
+
 ghost use Rattle.std.specs.Prelude.{◌≡◌, ◌≤◌, ◌<◌, length, replicate};
 ghost use Rattle.masked_call.specs.Shares.{placed_in, shares_of};
 

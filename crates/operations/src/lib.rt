@@ -1,5 +1,7 @@
 // The operations on shares: the call over each compiled plan. The contracts cite the definitions of `masked_call`, and what holds of them in
 // `specs/`.
+#![tactic(auto)]
+
 ghost use Rattle.std.specs.Prelude.{◌≡◌};
 ghost use Rattle.plans.specs.words.ProductPlan.{product_plan};
 ghost use Rattle.plans.specs.words.SumPlan.{sum_plan};

@@ -1,4 +1,6 @@
 // The plain machine: runs a plan on 32 unsplit cells. `specs/` has the machine and the call's contract.
+#![tactic(auto)]
+
 ghost use Rattle.std.specs.Prelude.{◌≡◌, length};
 ghost use Rattle.word.specs.Encoding.{plan_step};
 ghost use Rattle.plain.specs.Machine as machine;

@@ -1,4 +1,6 @@
 // The table of kinds: what cell d becomes. The plain machine goes by it; share run and the gadgets are proved against the same definition.
+#![tactic(auto)]
+
 ghost use Rattle.std.specs.Prelude.{◌≡◌, ℕ, ◌+◌, ◌%◌, ◌^◌, slice_index, slice_set};
 ghost use Rattle.bits.specs.Ops.{shl_w, shr_w};
 ghost use Rattle.word.specs.Table as spec;

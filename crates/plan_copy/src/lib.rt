@@ -1,5 +1,7 @@
 // The words of the built-in plans, in constant tables but for the product's rows, and the calls that copy them out. `plans` has the plans as steps, and what
 // they compute.
+#![tactic(auto)]
+
 mod copy;
 pub mod floor_table;
 pub mod nearest_table;

@@ -1,4 +1,6 @@
 // Share runs in a row: the call that demand 3 speaks of, once for each count and budget of a list, each going on from the cells and places of the last.
+#![tactic(auto)]
+
 ghost use Rattle.std.specs.Prelude.{◌≡◌};
 ghost use Rattle.masking.specs.Demand3.{Demand3Holds};
 ghost use Rattle.masking.specs.Runs.{in_arow, runs_of, standing};

@@ -1,4 +1,6 @@
 // One share step: told no count, it takes a head or a good word. masking's `specs/` has the definitions that the contracts cite.
+#![tactic(auto)]
+
 ghost use Rattle.std.specs.Prelude.{◌≡◌, ◌||◌};
 ghost use Rattle.word.specs.Encoding.{is_good, program_step};
 ghost use Rattle.word.specs.Head.{is_head};

@@ -1,5 +1,7 @@
 // Reads a share count and a plan from standard input, and writes the plan's share program to standard output, one word a line, or the
 // number of the turn-down. A piece of some tens of kilobytes is held at a time, never the whole share program.
+#![tactic(auto)]
+
 ghost use Rattle.std.specs.Prelude.{◌≡◌, ◌<◌, length, take};
 ghost use Rattle.io.specs.Counts.{IsPrefixLen};
 ghost use Rattle.listing_input.specs.Input.{input_max};

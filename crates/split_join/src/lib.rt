@@ -1,4 +1,6 @@
 // Split and join: a word to its shares and back.
+#![tactic(auto)]
+
 ghost use Rattle.std.specs.Prelude.{◌≡◌, ◌-◌, ◌+◌, ◌≤◌, ◌<◌, length, take};
 ghost use Rattle.split_join.specs.SplitJoin.{xor_all, split_of, split_answer, split_out, join_answer, joined_word, SplitJoins};
 

@@ -1,6 +1,8 @@
 // The plain operations against the machine's own binary64, over edges and at random, where the documents and IEEE 754 agree, and against
 // their own words where they depart from IEEE 754. Writes how many pairs agree, how many are such, how many have an operand that the
 // two read apart and were skipped, and how many differ from what they should be.
+#![tactic(auto)]
+
 mod native;
 mod operands;
 

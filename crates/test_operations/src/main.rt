@@ -1,5 +1,7 @@
 // The operations on shares against the plain ones: every pair of the edges and drawn pairs, for n = 2..8. Writes for each n how many results
 // differ; a call that is turned down counts as different.
+#![tactic(auto)]
+
 ghost use Rattle.std.specs.Prelude.{◌≤◌};
 
 use libc::STDOUT_FILENO;

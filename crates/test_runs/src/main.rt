@@ -1,5 +1,7 @@
 // Share runs in a row with odd budgets against one run in a go, joined registers against the plain run, and AND's scratch cells against
 // zero, for a plan of every kind and n = 2..8. Writes for each n the counts, what differs and what is left.
+#![tactic(auto)]
+
 use libc::STDOUT_FILENO;
 
 // CONST, XOR, AND, NOT, SHL, SHR, SPREAD and ADD, with distinct and with equal registers.

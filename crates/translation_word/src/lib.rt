@@ -1,5 +1,7 @@
 // The share words of a plan's word. For share 0 it is the plan's word itself, since share 0 of register r is cell r. An inner crate of Translate:
 // its functions ask for room and a share count.
+#![tactic(auto)]
+
 ghost use Rattle.std.specs.Prelude.{◌≤◌, ◌<◌, ◌≡◌, length};
 ghost use Rattle.word.specs.declared.step.Step.TheVariants.{Add, And};
 ghost use Rattle.word.specs.declared.step.Decoded.TheVariants.{Good};

@@ -1,6 +1,6 @@
 // Decoded steps: the kind of a step word with its fields. Cells have nine bits, a constant eighteen. A cell is a `usize`, as it indexes; in
 // narrower types the compiler packs a step into one machine word and takes it apart again.
-#[derive(Drop)]
+#[derive(Clone, Copy)]
 pub enum Step {
     Const { d: usize, k: u32 },
     Xor { d: usize, a: usize, b: usize },
@@ -14,7 +14,7 @@ pub enum Step {
 }
 
 // What taking a word apart gives: its step, or the finding that the word is bad.
-#[derive(Drop)]
+#[derive(Clone, Copy)]
 pub enum Decoded {
     Good(Step),
     Bad,

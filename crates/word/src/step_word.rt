@@ -8,7 +8,7 @@ ghost use Rattle.word.specs.Layout as layout;
 use crate::parts::{put, row};
 use crate::step::Decoded;
 
-#[derive(Drop)]
+#[derive(Clone, Copy)]
 pub struct StepWord {
     pub bits: u32,
 }

@@ -1,4 +1,6 @@
 // Taking a step word apart by the rule of plans and by that of share programs: its step, or the finding that it is bad. And whether it is a head.
+#![tactic(auto)]
+
 ghost use Rattle.std.specs.Prelude.{◌≡◌};
 ghost use Rattle.word.specs.Encoding.{plan_step, program_step};
 ghost use Rattle.word.specs.Head.{is_head};

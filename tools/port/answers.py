@@ -1,0 +1,288 @@
+#!/usr/bin/env python3
+"""Turns a function's Proof.antt of the older form into Answers.antt and Invariants.antt.
+
+usage: answers.py NAMES CRATE [FUNCTION..]
+
+NAMES is the names.json that `rt check --generated FOLDER --old-names` writes in the crate's folder CRATE. A Proof.antt that hands its answers
+to `tie.close (tie.spec ..)` is turned: each answer gets the goal's new name, a path through `.before` becomes the step's new name, and an
+answer `search rules` is left to the check. Loop invariants become Invariants.antt. FUNCTION is a folder below proofs/; none: all.
+"""
+
+import json
+import os
+import re
+import sys
+
+NAME = r'[^\s(){}.;,@"«»]+'
+PRE = re.compile(r"^(overflow|nonzero|bounds|slice|offset|range)-")
+
+
+def alike(name):
+    return name.replace("-", "").replace("_", "").lower()
+
+
+def blocks(text):
+    """The top declarations of a file: comment and blank lines before go with each."""
+    out, now = [], []
+    for line in text.split("\n"):
+        starts = line[:1] not in ("", " ", "\t")
+        if starts and now and not all(l.startswith("--") or not l.strip() for l in now):
+            prior = [l for l in now if l.strip() and not l.startswith("--")]
+            head = re.match(rf"(?:(?:pub|abbrev|unfoldable) +)*({NAME})", line)
+            first = re.match(rf"(?:(?:pub|abbrev|unfoldable) +)*({NAME})", prior[0])
+            same = head and first and head[1] == first[1] and not line.startswith("--") and not re.match(r"(use|pub record|record|module|data)\b", line)
+            if not (same or line.startswith("unfolding")):
+                trailing = []
+                while now and (not now[-1].strip() or now[-1].startswith("--")):
+                    trailing.insert(0, now.pop())
+                out.append(now)
+                now = trailing
+        now.append(line)
+    if now:
+        out.append(now)
+    return [[l for l in b] for b in out]
+
+
+def args_of(text):
+    """The arguments of a call, split at the top."""
+    out, depth, now = [], 0, ""
+    for ch in text:
+        if ch in "([{":
+            depth += 1
+        if ch in ")]}":
+            depth -= 1
+        if depth == 0 and ch.isspace():
+            if now.strip():
+                out.append(now.strip())
+            now = ""
+        else:
+            now += ch
+    if now.strip():
+        out.append(now.strip())
+    return out
+
+
+class Function:
+    def __init__(self, data):
+        self.data = data
+        self.places = {p[0]: p for p in data["places"]}
+        self.arms = {}
+        for p, arm in zip(data["places"], data["arms"]):
+            if arm:
+                self.arms.setdefault(p[0], []).append(arm)
+        self.loops = data["loops"]
+
+    def chain(self, place, befores):
+        for _ in range(befores):
+            p = self.places.get(place)
+            if not p or p[1] is None:
+                return None
+            place = p[1]
+        return place
+
+    def typed(self, place):
+        return next((t for p, t in zip(self.data["places"], self.data["typed"]) if p[0] == place), [])
+
+    def path(self, place, tokens):
+        """c.TOKENS of an answer at the place, in today's names."""
+        k = 0
+        while k < len(tokens) and tokens[k] == "before":
+            k += 1
+        at = self.chain(place, k)
+        rest = tokens[k:]
+        if at is None or not rest:
+            return None if k else rest
+        p = self.places[at]
+        old, new = p[2]
+        best = None
+        for arm in self.arms.get(at, []):
+            for field, step, olds in arm[2]:
+                if alike(step) == alike(rest[0]) and rest[1 : 1 + len(olds)] == olds and (best is None or len(olds) > best[0]):
+                    best = (len(olds), [arm[0], field, *rest[1 + len(olds) :]])
+        if best:
+            return best[1]
+        if alike(rest[0]) == alike(old):
+            known = "slice_known" in rest[0].replace("-", "_") and next((v for v, step in self.typed(place) if alike(step) == alike(rest[0])), None)
+            if known and rest[1:2] == ["given"]:
+                return ["type_inv", known, *rest[2:]]
+            return [new, *rest[1:]]
+        return rest
+
+    def turned(self, place, text, var="c"):
+        def one(m):
+            tokens = m[2].strip(".").split(".")
+            new = self.path(place, tokens)
+            if new is None:
+                return m[0] + "{-?-}"
+            return m[1] + "." + ".".join(new)
+
+        return re.sub(rf"(?<![^\s(){{}};,])({re.escape(var)})((?:\.{NAME})+)", one, text)
+
+
+def split_signature(lines):
+    """(comment lines, name, type, 'unfolding' line, clauses) of a declaration."""
+    i = 0
+    while i < len(lines) and (lines[i].startswith("--") or not lines[i].strip()):
+        i += 1
+    m = re.match(rf"((?:(?:pub|abbrev|unfoldable) +)*)({NAME}) : (.*)$", lines[i]) if i < len(lines) else None
+    if not m:
+        return None
+    j = i + 1
+    unfolding = ""
+    if j < len(lines) and lines[j].startswith("unfolding"):
+        unfolding = lines[j]
+        j += 1
+    return lines[:i], m[2], m[3], unfolding, lines[j:], m[1]
+
+
+def goal_of(type_, needs):
+    m = re.match(rf"tie\.Need-({NAME})", type_)
+    if not m:
+        return None
+    old = m[1]
+    for k, (a, b) in enumerate(needs):
+        if alike(a) in (alike(old), alike(PRE.sub("", old))) or alike(b) == alike(old):
+            return k
+    return -1
+
+
+def loop_of(data, label):
+    """The new label of a loop, its variables and which of them change."""
+    for ((old, new), names), changed in zip(data["loops"], data["changed"]):
+        if alike(old) == alike(label):
+            return new, names, changed
+    return None
+
+
+def invariant(data, s):
+    """An invariant or measure over the record of today, from one over separate variables."""
+    comments, n, type_, unfolding, clauses, marks = s
+    kind, label = re.match(r"tie\.(invariant|decreases)-?(\S*)", type_).groups()
+    found = loop_of(data, label)
+    if not found:
+        return None
+    new, names, changed = found
+    body = "\n".join(clauses).rstrip()
+    m = re.match(rf"{re.escape(n)} ((?:{NAME} )*)=(.*)$", body, re.S)
+    if not m:
+        return None
+    params = m[1].split()
+    to = {}
+    paths = [f"l.initial.{v}" if c else f"l.{v}" for v, c in zip(names, changed)] + [f"l.{v}" for v, c in zip(names, changed) if c]
+    if len(paths) != len(params):
+        return None
+    for p, q in zip(params, paths):
+        to[p] = q
+    text = re.sub(rf"(?<![^\s(){{}};,])({NAME})", lambda t: to.get(t[1], t[1]), m[2])
+    at = {a: b for (a, b) in [(n, f"{kind}-{new}")]}
+    return comments + [f"abbrev pub {kind}-{new} : goal.{kind}-{new}"] + ([unfolding] if unfolding else []) + [f"{kind}-{new} l ={text}", ""]
+
+
+def turn(path, name, data):
+    f = Function(data)
+    text = open(path, encoding="utf-8").read()
+    if "tie.close" not in text:
+        return f"{path}: walks by hand"
+    bs = blocks(text)
+    needs = data["needs"]
+    at = [a[0] for a in data["asked_at"]]
+    uses, helpers, answers, invariants, said = [], [], {}, [], []
+    spec = None
+    for b in bs:
+        first = next((l for l in b if l.strip() and not l.startswith("--")), "")
+        if first.startswith("use "):
+            uses += b
+            continue
+        s = split_signature(b)
+        if s and re.match(r"tie\.(invariant|decreases)", s[2]):
+            invariants.append(s)
+            continue
+        if s and s[2].startswith("tie.Need-"):
+            k = goal_of(s[2], needs)
+            answers[s[1]] = (k, s)
+            continue
+        if s and s[1].endswith("_spec") and "statement" in s[2]:
+            body = "\n".join(s[4])
+            m = re.search(r"\(tie\.spec(.*)\)\s*$", body, re.S)
+            spec = args_of(m[1]) if m else []
+            continue
+        helpers += b
+    loops = [a for a in (spec or []) if any(a == i[1] for i in invariants)]
+    given = [a for a in (spec or []) if a not in loops]
+    out, order = [], {}
+    if len(given) != len(needs):
+        said.append(f"{len(given)} answers for {len(needs)} goals")
+    used = set()
+    for n, (k, s) in answers.items():
+        if k is None or k < 0:
+            if n in given and len(given) == len(needs):
+                k = given.index(n)
+            else:
+                said.append(f"no goal for {n} : {s[2]}")
+                continue
+        order[k] = (n, s)
+        used.add(k)
+    for k, (old, new) in enumerate(needs):
+        if k in order:
+            n, s = order[k]
+            comments, name_, type_, unfolding, clauses, _ = s
+            body = "\n".join(clauses).rstrip()
+            body = re.sub(rf"^{re.escape(name_)}(?= )", lambda m: new, body, flags=re.M)
+            # the loans of a call are no argument of its goal today
+            body = re.sub(rf"^({re.escape(new)}(?: {NAME})*) κs =", r"\1 =", body, flags=re.M)
+            m = re.match(rf"{re.escape(new)} ((?:{NAME} )*)=", body)
+            var = m[1].split() if m else []
+            body = f.turned(at[k], body, var[-1] if var and var[-1].startswith("c") else "c")
+            # an answer cited by another
+            out += [l for l in comments if l.strip()] + [f"pub {new} : goal.{new}"] + ([unfolding] if unfolding else []) + [body, ""]
+        elif len(given) == len(needs):
+            a = given[k]
+            m = re.match(r"\(λ ([^.]*)\. (.*)\)$", a, re.S)
+            if not m or re.fullmatch(r"search rules", m[2].strip()):
+                continue
+            body = f.turned(at[k], m[2], m[1].split()[0])
+            out += [f"pub {new} : goal.{new}", f"{new} {m[1].replace(' κs', '')} = {body}", ""]
+    folder = os.path.dirname(path)
+    module = re.search(r"use (Rattle\.\S+)\.Tie as tie", text)[1]
+    uses = [u for u in uses if not re.search(r"\.(Tie as tie|Statement\.\{statement\})", u)]
+    head = [u for u in uses if u.startswith("--")]
+    uses = [u for u in uses if u.startswith("use ")]
+    joined = "\n".join(helpers + out)
+    if invariants:
+        inv = [f"-- The invariants and measures of the loops of `{name}`."] + uses + [f"use {module}.Given as goal", ""]
+        for s in invariants:
+            lines = invariant(data, s)
+            if lines is None:
+                said.append(f"no loop for {s[1]} : {s[2]}")
+                lines = [f"-- {l}" for l in [s[2], *s[4]]]
+            inv += lines
+        with open(os.path.join(folder, "Invariants.antt"), "w", encoding="utf-8") as it:
+            it.write("\n".join(inv))
+    if out:
+        with open(os.path.join(folder, "Answers.antt"), "w", encoding="utf-8") as it:
+            it.write("\n".join(head + uses + [f"use {module}.Goals as goal", ""] + helpers + out).rstrip() + "\n")
+    if not said:
+        os.remove(path)
+    else:
+        os.rename(path, path + ".old")
+    return f"{path}: turned" + ("; " + "; ".join(said) if said else "")
+
+
+def main(argv):
+    names, crate, only = argv[0], argv[1], argv[2:]
+    data = json.load(open(names, encoding="utf-8"))
+    by = {k.split("-proofs.", 1)[1].rsplit(".Lts", 1)[0]: v for k, v in data.items() if "-proofs." in k and k.endswith(".Lts")}
+    for folder, _, files in sorted(os.walk(os.path.join(crate, "proofs"))):
+        if "Proof.antt" not in files:
+            continue
+        name = os.path.relpath(folder, os.path.join(crate, "proofs")).replace(os.sep, ".")
+        if only and name not in only:
+            continue
+        if name not in by:
+            print(f"{folder}: no names")
+            continue
+        print(turn(os.path.join(folder, "Proof.antt"), name, by[name]))
+
+
+if __name__ == "__main__":
+    main(sys.argv[1:])
