@@ -62,9 +62,26 @@ def args_of(text):
     return out
 
 
+def clauses_below(root):
+    """For each function of the repository, by crate and name, the names of its clauses."""
+    out = {}
+    for c in os.listdir(root):
+        for folder, _, files in os.walk(os.path.join(root, c, "src")):
+            for n in files:
+                if n.endswith(".rt"):
+                    text = re.sub(r"//[^\n]*", "", open(os.path.join(folder, n), encoding="utf-8").read())
+                    for m in re.finditer(r"\bfn (\w+)(?:<[^(]*>)?\s*\((.*?)\n?\{\n", text, re.S):
+                        names = lambda kind: re.findall(rf"(?m)^ *{kind}\*? (\w+)? ?\{{", m[2])
+                        out[c, m[1]] = {"requires": names("requires"), "ensures": names("ensures")}
+    return out
+
+
 class Function:
-    def __init__(self, data):
+    def __init__(self, data, crate, name, clauses):
         self.data = data
+        self.clauses = clauses
+        self.crate = crate
+        self.own = (crate, name.split(".")[-1])
         self.places = {p[0]: p for p in data["places"]}
         self.arms = {}
         for p, arm in zip(data["places"], data["arms"]):
@@ -79,6 +96,20 @@ class Function:
                 return None
             place = p[1]
         return place
+
+    def facts(self, p, rest):
+        """The fields below a step: a branch's fact, a clause by its name, what a call keeps of a lent slice."""
+        for old, new in p[4]:
+            if rest[:1] == [old]:
+                return [new, *rest[1:]]
+        name = self.own if p[1] is None else p[3] and (p[3].split("::")[0], p[3].split("::")[-1])
+        if name and len(rest) > 1 and rest[0] in ("requires", "ensures") and rest[1].isdigit():
+            names = self.clauses.get(name, {}).get(rest[0], [])
+            if len(names) > 1:
+                return [rest[0], names[int(rest[1])], *rest[2:]]
+        if p[3] and len(rest) > 2 and rest[0] == "auto" and rest[1].isdigit():
+            return ["auto", self.data["params"][p[3]][int(rest[1])], *rest[3:]]
+        return rest
 
     def typed(self, place):
         return next((t for p, t in zip(self.data["places"], self.data["typed"]) if p[0] == place), [])
@@ -105,7 +136,9 @@ class Function:
             known = "slice_known" in rest[0].replace("-", "_") and next((v for v, step in self.typed(place) if alike(step) == alike(rest[0])), None)
             if known and rest[1:2] == ["given"]:
                 return ["type_inv", known, *rest[2:]]
-            return [new, *rest[1:]]
+            return [new, *self.facts(p, rest[1:])]
+        if p[1] is None:
+            return self.facts(p, rest)
         return rest
 
     def turned(self, place, text, var="c"):
@@ -178,8 +211,33 @@ def invariant(data, s):
     return comments + [f"abbrev pub {kind}-{new} : goal.{kind}-{new}"] + ([unfolding] if unfolding else []) + [f"{kind}-{new} l ={text}", ""]
 
 
-def turn(path, name, data):
-    f = Function(data)
+def by_clause(body, names):
+    """An answer that is a tuple of several clauses' proofs, as a record of them by name."""
+    if not body.endswith(")"):
+        return None
+    depth = 0
+    for i in range(len(body) - 1, -1, -1):
+        depth += (body[i] in ")]}") - (body[i] in "([{")
+        if depth == 0:
+            break
+    inside, parts, now, depth = body[i + 1 : -1], [], "", 0
+    for ch in inside:
+        depth += (ch in "([{") - (ch in ")]}")
+        if ch == "," and depth == 0:
+            parts.append(now)
+            now = ""
+        else:
+            now += ch
+    if now.strip():
+        parts.append(now)
+    before = body[:i].rstrip()
+    if len(parts) != len(names) or not re.search(r"(=|\bin)$", before):
+        return None
+    return before + " record { " + " ".join(f"{n} = {p.strip()};" for n, p in zip(names, parts)) + " }"
+
+
+def turn(path, name, data, crate, table):
+    f = Function(data, crate, name, table)
     text = open(path, encoding="utf-8").read()
     if "tie.close" not in text:
         return f"{path}: walks by hand"
@@ -234,6 +292,11 @@ def turn(path, name, data):
             var = m[1].split() if m else []
             body = f.turned(at[k], body, var[-1] if var and var[-1].startswith("c") else "c")
             # an answer cited by another
+            if old in data["asked"]:
+                recorded = by_clause(body, data["asked"][old])
+                if recorded is None:
+                    said.append(f"{new} asks {data['asked'][old]}")
+                body = recorded or body
             out += [l for l in comments if l.strip()] + [f"pub {new} : goal.{new}"] + ([unfolding] if unfolding else []) + [body, ""]
         elif len(given) == len(needs):
             a = given[k]
@@ -241,6 +304,11 @@ def turn(path, name, data):
             if not m or re.fullmatch(r"search rules", m[2].strip()):
                 continue
             body = f.turned(at[k], m[2], m[1].split()[0])
+            if old in data["asked"]:
+                recorded = by_clause("= " + body, data["asked"][old])
+                if recorded is None:
+                    said.append(f"{new} asks {data['asked'][old]}")
+                body = (recorded or "= " + body)[2:]
             out += [f"pub {new} : goal.{new}", f"{new} {m[1].replace(' κs', '')} = {body}", ""]
     folder = os.path.dirname(path)
     module = re.search(r"use (Rattle\.\S+)\.Tie as tie", text)[1]
@@ -272,6 +340,7 @@ def main(argv):
     names, crate, only = argv[0], argv[1], argv[2:]
     data = json.load(open(names, encoding="utf-8"))
     by = {k.split("-proofs.", 1)[1].rsplit(".Lts", 1)[0]: v for k, v in data.items() if "-proofs." in k and k.endswith(".Lts")}
+    table = clauses_below(os.path.join(crate, ".."))
     for folder, _, files in sorted(os.walk(os.path.join(crate, "proofs"))):
         if "Proof.antt" not in files:
             continue
@@ -281,7 +350,7 @@ def main(argv):
         if name not in by:
             print(f"{folder}: no names")
             continue
-        print(turn(os.path.join(folder, "Proof.antt"), name, by[name]))
+        print(turn(os.path.join(folder, "Proof.antt"), name, by[name], os.path.basename(os.path.abspath(crate)), table))
 
 
 if __name__ == "__main__":
