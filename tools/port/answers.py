@@ -106,7 +106,20 @@ class Function:
         if name and len(rest) > 1 and rest[0] in ("requires", "ensures") and rest[1].isdigit():
             names = self.clauses.get(name, {}).get(rest[0], [])
             if len(names) > 1:
-                return [rest[0], names[int(rest[1])], *rest[2:]]
+                # the clauses were nested pairs: 1.1.0 is the third of four
+                k = 0
+                while k < len(names) - 1 and rest[1 + k : 2 + k] == ["1"]:
+                    k += 1
+                more = rest[1 + k :]
+                if k < len(names) - 1:
+                    if more[:1] != ["0"]:
+                        return [*rest, "-?-"]
+                    more = more[1:]
+                return [rest[0], names[k], *more]
+        if name and rest[:1] == ["ensures"] and not (len(rest) > 1 and not rest[1].isdigit()):
+            names = self.clauses.get(name, {}).get("ensures", [])
+            if len(names) == 1 and names[0]:
+                return ["ensures", names[0], *rest[1:]]
         if p[3] and len(rest) > 2 and rest[0] == "auto" and rest[1].isdigit():
             return ["auto", self.data["params"][p[3]][int(rest[1])], *rest[3:]]
         return rest
@@ -114,15 +127,34 @@ class Function:
     def typed(self, place):
         return next((t for p, t in zip(self.data["places"], self.data["typed"]) if p[0] == place), [])
 
+    def meant(self, place, befores, first):
+        """The step that a path means: the one so far back, or where the steps are counted otherwise today, the nearest so named."""
+        fits = lambda q: (
+            first in ("args", "requires", "ranges", "lifetimes")
+            if self.places[q][1] is None
+            else alike(self.places[q][2][0]) == alike(first) or any(alike(e[1]) == alike(first) for a in self.arms.get(q, []) for e in a[2])
+        )
+        at = self.chain(place, befores)
+        if at is not None and fits(at):
+            return at
+        line, q = [], place
+        while q is not None:
+            line.append(q)
+            q = self.places[q][1] if q in self.places else None
+        near = sorted((abs(n - befores), n) for n, q in enumerate(line) if fits(q))
+        return line[near[0][1]] if near else at
+
     def path(self, place, tokens):
         """c.TOKENS of an answer at the place, in today's names."""
         k = 0
         while k < len(tokens) and tokens[k] == "before":
             k += 1
-        at = self.chain(place, k)
         rest = tokens[k:]
-        if at is None or not rest:
-            return None if k else rest
+        if not rest:
+            return None
+        at = self.meant(place, k, rest[0])
+        if at is None:
+            return None
         p = self.places[at]
         old, new = p[2]
         best = None
@@ -142,14 +174,29 @@ class Function:
         return rest
 
     def turned(self, place, text, var="c"):
+        # a local that stands for a path from an earlier step: today all steps are fields of one record
+        names = {var: (place, [])}
+        while True:
+            heads = "|".join(re.escape(n) for n in names)
+            m = re.search(rf"\blet ({NAME}) = ({heads})((?:\.{NAME})*) in(?=\s|$)\s*", text)
+            if not m or m[1] in names:
+                break
+            at, before = names[m[2]]
+            names[m[1]] = (at, before + [t for t in m[3].split(".") if t])
+            text = text[: m.start()] + text[m.end() :]
+
         def one(m):
-            tokens = m[2].strip(".").split(".")
-            new = self.path(place, tokens)
+            at, before = names[m[1]]
+            tokens = before + [t for t in m[2].split(".") if t]
+            if not tokens:
+                return m[0]
+            new = self.path(at, tokens)
             if new is None:
                 return m[0] + "{-?-}"
-            return m[1] + "." + ".".join(new)
+            return var + "." + ".".join(new)
 
-        return re.sub(rf"(?<![^\s(){{}};,])({re.escape(var)})((?:\.{NAME})+)", one, text)
+        heads = "|".join(re.escape(n) for n in sorted(names, key=len, reverse=True))
+        return re.sub(rf"(?<![^\s(){{}};,])({heads})((?:\.{NAME})*)(?![^\s(){{}};,])", one, text)
 
 
 def split_signature(lines):
@@ -211,10 +258,11 @@ def invariant(data, s):
     return comments + [f"abbrev pub {kind}-{new} : goal.{kind}-{new}"] + ([unfolding] if unfolding else []) + [f"{kind}-{new} l ={text}", ""]
 
 
-def by_clause(body, names):
-    """An answer that is a tuple of several clauses' proofs, as a record of them by name."""
+def tuple_at_end(body):
+    """The text before a tuple that ends it, and the tuple's parts."""
+    body = body.rstrip()
     if not body.endswith(")"):
-        return None
+        return body, []
     depth = 0
     for i in range(len(body) - 1, -1, -1):
         depth += (body[i] in ")]}") - (body[i] in "([{")
@@ -224,13 +272,23 @@ def by_clause(body, names):
     for ch in inside:
         depth += (ch in "([{") - (ch in ")]}")
         if ch == "," and depth == 0:
-            parts.append(now)
+            parts.append(now.strip())
             now = ""
         else:
             now += ch
     if now.strip():
-        parts.append(now)
-    before = body[:i].rstrip()
+        parts.append(now.strip())
+    return body[:i].rstrip(), parts
+
+
+def by_clause(body, names):
+    """An answer that is a tuple of several clauses' proofs, as a record of them by name."""
+    before, parts = tuple_at_end(body)
+    while 1 < len(parts) < len(names):
+        start, more = tuple_at_end(parts[-1])
+        if start or len(more) < 2:
+            return None
+        parts = parts[:-1] + more
     if len(parts) != len(names) or not re.search(r"(=|\bin)$", before):
         return None
     return before + " record { " + " ".join(f"{n} = {p.strip()};" for n, p in zip(names, parts)) + " }"
@@ -296,7 +354,9 @@ def turn(path, name, data, crate, table):
                 recorded = by_clause(body, data["asked"][old])
                 if recorded is None:
                     said.append(f"{new} asks {data['asked'][old]}")
-                body = recorded or body
+                    out += ["-- LEFT " + l for l in body.split("\n")] + [""]
+                    continue
+                body = recorded
             out += [l for l in comments if l.strip()] + [f"pub {new} : goal.{new}"] + ([unfolding] if unfolding else []) + [body, ""]
         elif len(given) == len(needs):
             a = given[k]
@@ -308,7 +368,9 @@ def turn(path, name, data, crate, table):
                 recorded = by_clause("= " + body, data["asked"][old])
                 if recorded is None:
                     said.append(f"{new} asks {data['asked'][old]}")
-                body = (recorded or "= " + body)[2:]
+                    out += ["-- LEFT " + l for l in body.split("\n")] + [""]
+                    continue
+                body = recorded[2:]
             out += [f"pub {new} : goal.{new}", f"{new} {m[1].replace(' κs', '')} = {body}", ""]
     folder = os.path.dirname(path)
     module = re.search(r"use (Rattle\.\S+)\.Tie as tie", text)[1]
@@ -341,6 +403,8 @@ def main(argv):
     data = json.load(open(names, encoding="utf-8"))
     by = {k.split("-proofs.", 1)[1].rsplit(".Lts", 1)[0]: v for k, v in data.items() if "-proofs." in k and k.endswith(".Lts")}
     table = clauses_below(os.path.join(crate, ".."))
+    kit = os.path.join(os.path.dirname(os.popen("rt doc").read().strip()), "rattle")
+    table |= {("core" if c.startswith("core") else c, n): v for (c, n), v in clauses_below(kit).items() if c in ("core", "std", "std_alloc", "std_io", "io", "libc")}
     for folder, _, files in sorted(os.walk(os.path.join(crate, "proofs"))):
         if "Proof.antt" not in files:
             continue

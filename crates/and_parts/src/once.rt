@@ -4,14 +4,14 @@ ghost use Rattle.masking.specs.Translation.{shares};
 ghost use Rattle.and_parts.specs.inner.Effects.{InCells, Shifts, Still, at, once_step, value_of};
 
 // Where the shares of a register, or of AND's scratch, lie: share i is cell base + i * stride.
-#[derive(Drop)]
+#[derive(Clone, Copy)]
 pub struct Place {
     pub base: usize,
     pub stride: usize,
 }
 
 // What a share's cell becomes, of the same share of two operands.
-#[derive(Drop)]
+#[derive(Clone, Copy)]
 pub enum Op {
     Xor,
     Shl(u32),

@@ -13,7 +13,7 @@ use emission_rows::{Cells, put_word};
 use word::step_word::StepWord;
 
 // What AND does for each pair: a fresh word into both shares of y, or the cross products with the shares of a.
-#[derive(Drop)]
+#[derive(Clone, Copy)]
 pub enum EachPair {
     Refresh,
     Products(Cells),

@@ -7,7 +7,7 @@ ghost use Rattle.emission_rows.specs.inner.Written.{EachFits, Rises, Words, each
 use word::parts::put;
 
 // Where the shares of a register, a helper or a scratch cell lie: share i's cell is first + over * i. A field that is no cell stays as it is.
-#[derive(Drop)]
+#[derive(Clone, Copy)]
 pub struct Cells {
     pub first: u16,
     pub over: u16,

@@ -17,7 +17,7 @@ mod pairs;
 
 // A complex number: two words as binary64 numbers.
 #[repr(C)]
-#[derive(Drop)]
+#[derive(Clone, Copy)]
 pub struct Complex {
     pub re: u64,
     pub im: u64,

@@ -9,7 +9,7 @@ ghost use Rattle.fft_numbers.specs.Layer.{block_count, is_layer, pair_acts};
 use crate::{difference, product};
 
 // A sum and a difference.
-#[derive(Drop)]
+#[derive(Clone, Copy)]
 struct Both {
     plus: u64,
     minus: u64,

@@ -18,7 +18,7 @@ fn listed_words(input: &[u8], plan: &mut [u32]) -> usize
 }
 
 // What a piece comes to: the bytes written, the number of the piece that follows, and whether none does.
-#[derive(Drop)]
+#[derive(Clone, Copy)]
 pub struct Piece {
     pub bytes: usize,
     pub next: usize,

@@ -25,7 +25,7 @@ pub fn word_lines(n: usize, w: u32, out: &mut [u8]) -> usize
 }
 
 // How far a part of the listing goes: the number of the next plan word, and the bytes written.
-#[derive(Drop)]
+#[derive(Clone, Copy)]
 pub struct Part {
     pub next: usize,
     pub bytes: usize,

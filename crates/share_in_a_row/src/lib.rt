@@ -9,7 +9,7 @@ use share_run::rest::smaller;
 use share_run::run::share_run;
 
 // Where a list of runs leaves off in the program and on the tape.
-#[derive(Drop)]
+#[derive(Clone, Copy)]
 pub struct Places {
     pub program: usize,
     pub tape: usize,

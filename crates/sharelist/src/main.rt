@@ -53,7 +53,7 @@ fn list(fd: i32, input: &[u8], sent: &mut usize) -> bool
 }
 
 // What was read: how many bytes, and what the last read answered.
-#[derive(Drop)]
+#[derive(Clone, Copy)]
 struct Input {
     count: usize,
     last: isize,

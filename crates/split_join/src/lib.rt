@@ -51,7 +51,7 @@ pub fn split(word: u64, tape: &[u64], out: &mut [u64]) -> Answer
 
 // The answer of join, and the word joined: 0 when turned down.
 #[repr(C)]
-#[derive(Drop)]
+#[derive(Clone, Copy)]
 pub struct Joined {
     pub answer: Answer,
     pub word: u64,

@@ -21,7 +21,7 @@ const NEAREST: u64 = 4;
 // Pairs for each operation: those at edges, and 1,600,000 at random.
 const PAIRS: u64 = 1655040;
 
-#[derive(Drop)]
+#[derive(Clone, Copy)]
 struct Tally {
     same: u64,
     apart: u64,

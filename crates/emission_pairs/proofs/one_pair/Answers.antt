@@ -1,0 +1,13 @@
+-- `emission_pairs::one_pair` meets its contract.
+use borrow.Author.Rules.{rules}
+use Rattle.emission_pairs.proofs.one_pair.Goals as goal
+
+-- LEFT refresh_pair-requires c = rw c.in-Refresh.is at c.requires.1.-?-
+
+-- LEFT product_pair-requires c = rw c.in-Products.is at c.requires
+
+pub returns-in-Refresh : goal.returns-in-Refresh
+returns-in-Refresh c = rw c.in-Refresh.is c.refresh_pair.ensures
+
+pub returns-in-Products : goal.returns-in-Products
+returns-in-Products c = rw c.in-Products.is c.product_pair.ensures
