@@ -170,7 +170,7 @@ class Function:
                 return ["type_inv", known, *rest[2:]]
             return [new, *self.facts(p, rest[1:])]
         if p[1] is None:
-            return self.facts(p, rest)
+            return self.facts(p, ["well_formed", *rest[1:]] if rest[0] == "well-formed" else rest)
         return rest
 
     def turned(self, place, text, var="c"):
@@ -258,6 +258,36 @@ def invariant(data, s):
     return comments + [f"abbrev pub {kind}-{new} : goal.{kind}-{new}"] + ([unfolding] if unfolding else []) + [f"{kind}-{new} l ={text}", ""]
 
 
+def helper_of(b):
+    """A lemma of the file over an earlier step: (name, its variable, the step, its type, its body), or None."""
+    s = split_signature(b)
+    m = s and re.match(rf"\(({NAME}) : tie\.({NAME})\) → (.*)$", s[2], re.S)
+    if not m or s[3]:
+        return None
+    body = "\n".join(l for l in s[4] if l.strip() and not l.startswith("--"))
+    d = re.match(rf"{re.escape(s[1])} ({NAME}) =\s*(.*)$", body, re.S)
+    return (s[1], m[1], m[2], m[3], d[1], d[2]) if d else None
+
+
+def with_helpers(f, helpers, body, var):
+    """The body of an answer with each lemma over an earlier step as a local of its own."""
+    lets, done = "", set()
+    for name, v, step, kind, w, text in helpers:
+        place = next((p[0] for p in f.data["places"] if alike(p[0]) == alike(step)), None)
+        call = re.compile(rf"(?<![^\s(){{}};,]){re.escape(name)} (?:[^\W\d]{NAME}|[^\W\d])(?:\.before)*(?![^\s(){{}};,])")
+        rest = body + lets
+        if place is None or not any(re.search(rf"(?<![^\s(){{}};,]){re.escape(n)}(?![^\s(){{}};,])", body) for n, *_ in helpers):
+            continue
+        local = lambda t: re.sub(rf"(?<![^\s(){{}};,])({'|'.join(re.escape(n[0]) for n in helpers)}) (?:[^\W\d]{NAME}|[^\W\d])(?:\.before)*(?![^\s(){{}};,.])", r"\1", t)
+        turned = lambda t, x: re.sub(rf"(?<![^\s(){{}};,]){re.escape(x)}(?=\.)", var, f.turned(place, local(t), x))
+        lets += f"    let {name} : {turned(kind, v)} = {turned(text, w)} in\n"
+        done.add(name)
+    if not done:
+        return body, ""
+    body = re.sub(rf"(?<![^\s(){{}};,])({'|'.join(re.escape(n) for n in done)}) (?:[^\W\d]{NAME}|[^\W\d])(?:\.before)*(?![^\s(){{}};,.])", r"\1", body)
+    return body, lets
+
+
 def tuple_at_end(body):
     """The text before a tuple that ends it, and the tuple's parts."""
     body = body.rstrip()
@@ -303,7 +333,7 @@ def turn(path, name, data, crate, table):
     needs = data["needs"]
     at = [a[0] for a in data["asked_at"]]
     uses, helpers, answers, invariants, said = [], [], {}, [], []
-    spec = None
+    spec, over_steps = None, []
     for b in bs:
         first = next((l for l in b if l.strip() and not l.startswith("--")), "")
         if first.startswith("use "):
@@ -321,6 +351,10 @@ def turn(path, name, data, crate, table):
             body = "\n".join(s[4])
             m = re.search(r"\(tie\.spec(.*)\)\s*$", body, re.S)
             spec = args_of(m[1]) if m else []
+            continue
+        h = helper_of(b)
+        if h:
+            over_steps.append(h)
             continue
         helpers += b
     loops = [a for a in (spec or []) if any(a == i[1] for i in invariants)]
@@ -348,7 +382,12 @@ def turn(path, name, data, crate, table):
             body = re.sub(rf"^({re.escape(new)}(?: {NAME})*) κs =", r"\1 =", body, flags=re.M)
             m = re.match(rf"{re.escape(new)} ((?:{NAME} )*)=", body)
             var = m[1].split() if m else []
-            body = f.turned(at[k], body, var[-1] if var and var[-1].startswith("c") else "c")
+            v = var[-1] if var and var[-1].startswith("c") else "c"
+            body, lets = with_helpers(f, over_steps, body, v)
+            body = f.turned(at[k], body, v)
+            if lets:
+                head, _, tail = body.partition("=")
+                body = head + "=\n" + lets + "    " + tail.strip()
             # an answer cited by another
             if old in data["asked"]:
                 recorded = by_clause(body, data["asked"][old])
