@@ -1,6 +1,5 @@
 -- `translation::measure::counted` meets its contract.
 use mathlib.Core.Path.{◌≡◌, refl, sym, ap, ap₂, ◌∙◌}
-use mathlib.Core.Logic.{⊎_elim}
 use Prim.Native.Nat.{◌-◌, ◌*◌, ◌≤◌}
 use native.Mathlib.Nat.{mul-le-mul}
 use native.Mathlib.Omega.{arith}
@@ -12,6 +11,7 @@ use Rattle.masking.specs.Foretold.{foretold_words, foretold_tape}
 use Rattle.word.proofs.Small.{length_le, tape_le}
 use Rattle.translation.proofs.Counted.{least_length, Summed, summed, summed_as, summed_plain}
 use Rattle.translation.proofs.measure.counted.Goals as goal
+use Rattle.translation.proofs.measure.counted.Goals.{then-kind-eq-AND, else-kind-eq-AND, then-kind-eq-ADD, else-kind-eq-ADD}
 
 pub overflow_sub-and_more : goal.overflow_sub-and_more
 overflow_sub-and_more c = omega (arith, c.length.ensures, least_length c.args.n c.requires.le_n.0 c.requires.le_n.1 3)
@@ -30,7 +30,7 @@ loop-i-init c = (omega arith, refl, summed _ _)
 
 pub overflow_add-words-then-kind-eq-AND : goal.overflow_add-words-then-kind-eq-AND
 overflow_add-words-then-kind-eq-AND c =
-    omega (arith, c.loop-i.invariant.0, c.loop-i.invariant.2.words_Small, mul-le-mul c.requires.le_n.1 c.requires.plan_len_bound, c.requires.plan_len_bound, c.length.ensures, length_le c.args.n c.requires.le_n.1 3)
+    omega (arith, c.loop-i.invariant.0, c.loop-i.invariant.2.words_small, mul-le-mul c.requires.le_n.1 c.requires.plan_len_bound, c.requires.plan_len_bound, c.length.ensures, length_le c.args.n c.requires.le_n.1 3)
 
 pub overflow_add-tape : goal.overflow_add-tape
 overflow_add-tape c =
@@ -39,30 +39,42 @@ overflow_add-tape c =
 pub overflow_add-words-then-kind-eq-ADD : goal.overflow_add-words-then-kind-eq-ADD
 overflow_add-words-then-kind-eq-ADD c =
     let most = mul-le-mul c.requires.le_n.1 c.requires.plan_len_bound in
-    ⊎_elim
-    (λ v. omega (arith, v.1, c.loop-i.invariant.0, c.loop-i.invariant.2.words_Small, most, c.requires.plan_len_bound, c.length.ensures, c.length-2.ensures, length_le c.args.n c.requires.le_n.1 3, length_le c.args.n c.requires.le_n.1 8))
-    (λ v. omega (arith, v.1, c.loop-i.invariant.0, c.loop-i.invariant.2.words_Small, most, c.requires.plan_len_bound, c.length-2.ensures, length_le c.args.n c.requires.le_n.1 8)) c.if-kind-eq-AND.branch
+    elim c.if-kind-eq-AND.branch [
+      then-kind-eq-AND v ↦
+        omega (arith, v.words-is, c.loop-i.invariant.0, c.loop-i.invariant.2.words_small, most, c.requires.plan_len_bound, c.length.ensures, c.length-2.ensures, length_le c.args.n c.requires.le_n.1 3, length_le c.args.n c.requires.le_n.1 8)
+    | else-kind-eq-AND v ↦
+        omega (arith, v.words-is, c.loop-i.invariant.0, c.loop-i.invariant.2.words_small, most, c.requires.plan_len_bound, c.length-2.ensures, length_le c.args.n c.requires.le_n.1 8)
+    ]
 
 pub overflow_add-tape-then-kind-eq-ADD : goal.overflow_add-tape-then-kind-eq-ADD
 overflow_add-tape-then-kind-eq-ADD c =
-    ⊎_elim
-    (λ v. omega (arith, v.2, c.loop-i.invariant.0, c.loop-i.invariant.2.tape_small, c.requires.plan_len_bound, c.tape-and_tape.ensures, c.tape-add_tape.ensures, tape_le c.args.n c.requires.le_n.1 3, tape_le c.args.n c.requires.le_n.1 8))
-    (λ v. omega (arith, v.2, c.loop-i.invariant.0, c.loop-i.invariant.2.tape_small, c.requires.plan_len_bound, c.tape-add_tape.ensures, tape_le c.args.n c.requires.le_n.1 8)) c.if-kind-eq-AND.branch
+    elim c.if-kind-eq-AND.branch [
+      then-kind-eq-AND v ↦
+        omega (arith, v.tape-is, c.loop-i.invariant.0, c.loop-i.invariant.2.tape_small, c.requires.plan_len_bound, c.tape-and_tape.ensures, c.tape-add_tape.ensures, tape_le c.args.n c.requires.le_n.1 3, tape_le c.args.n c.requires.le_n.1 8)
+    | else-kind-eq-AND v ↦
+        omega (arith, v.tape-is, c.loop-i.invariant.0, c.loop-i.invariant.2.tape_small, c.requires.plan_len_bound, c.tape-add_tape.ensures, tape_le c.args.n c.requires.le_n.1 8)
+    ]
 
 pub loop-i-preserved : goal.loop-i-preserved
 loop-i-preserved c =
     let i : c.loop-i.i ≤ length c.args.plan.now = c.loop-i.invariant.0 in
     let on = summed_as c.args.n c.requires.le_n.0 c.requires.le_n.1 c.args.plan.now c.loop-i.i c.loop-i.invariant.2 (omega arith) in
     let same = summed_plain c.args.n c.requires.le_n.0 c.requires.le_n.1 c.args.plan.now c.loop-i.i c.loop-i.invariant.2 (omega arith) in
-    ⊎_elim
-    (λ w.
-    ⊎_elim (λ v. absurd (omega (arith, w.0.taken, v.0.taken)))
-    (λ v. (omega arith, refl, on 8 _ _ (sym w.0.taken) (omega (arith, w.3, v.1, c.length-2.ensures)) (omega (arith, w.4, v.2, c.tape-add_tape.ensures)))) c.if-kind-eq-AND.branch)
-    (λ w.
-    ⊎_elim
-    (λ v. (omega arith, refl, on 3 _ _ (sym v.0.taken) (omega (arith, w.1, v.1, c.length.ensures)) (omega (arith, w.2, v.2, c.tape-and_tape.ensures))))
-    (λ v. (omega arith, refl, same _ _ _ refl v.0.left w.0.left (omega (arith, w.1, v.1)) (omega (arith, w.2, v.2)))) c.if-kind-eq-AND.branch)
-    c.if-kind-eq-ADD.branch
+    elim c.if-kind-eq-ADD.branch [
+      then-kind-eq-ADD w ↦
+        elim c.if-kind-eq-AND.branch [
+          then-kind-eq-AND v ↦ absurd (omega (arith, w.if-kind-eq-ADD.true, v.if-kind-eq-AND.true))
+        | else-kind-eq-AND v ↦
+            (omega arith, refl, on 8 _ _ (sym w.if-kind-eq-ADD.true) (omega (arith, w.words-is, v.words-is, c.length-2.ensures)) (omega (arith, w.tape-is, v.tape-is, c.tape-add_tape.ensures)))
+        ]
+    | else-kind-eq-ADD w ↦
+        elim c.if-kind-eq-AND.branch [
+          then-kind-eq-AND v ↦
+            (omega arith, refl, on 3 _ _ (sym v.if-kind-eq-AND.true) (omega (arith, w.words-is, v.words-is, c.length.ensures)) (omega (arith, w.tape-is, v.tape-is, c.tape-and_tape.ensures)))
+        | else-kind-eq-AND v ↦
+            (omega arith, refl, same _ _ _ refl v.if-kind-eq-AND.false w.if-kind-eq-ADD.false (omega (arith, w.words-is, v.words-is)) (omega (arith, w.tape-is, v.tape-is)))
+        ]
+    ]
 
 pub returns : goal.returns
 returns c =
