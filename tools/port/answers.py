@@ -120,8 +120,11 @@ class Function:
             names = self.clauses.get(name, {}).get("ensures", [])
             if len(names) == 1 and names[0]:
                 return ["ensures", names[0], *rest[1:]]
-        if p[3] and len(rest) > 2 and rest[0] == "auto" and rest[1].isdigit():
-            return ["auto", self.data["params"][p[3]][int(rest[1])], *rest[3:]]
+        if p[3] and len(rest) > 1 and rest[0] == "auto" and rest[1].isdigit():
+            k = 1
+            while rest[k : k + 1] == ["1"]:
+                k += 1
+            return ["auto", self.data["params"][p[3]][k - 1], *rest[k + 1 :]]
         return rest
 
     def typed(self, place):
@@ -188,7 +191,7 @@ class Function:
         def one(m):
             at, before = names[m[1]]
             tokens = before + [t for t in m[2].split(".") if t]
-            if not tokens:
+            if not tokens or re.search(rf"λ \(?(?:{NAME} )*$", m.string[: m.start()]):
                 return m[0]
             new = self.path(at, tokens)
             if new is None:
@@ -319,6 +322,10 @@ def by_clause(body, names):
         if start or len(more) < 2:
             return None
         parts = parts[:-1] + more
+    # `rw e (a, b)` rewrites in each part
+    m = re.search(r"(?:(?<=in)|(?<==))\s+(rw (?:\((?:[^()]|\([^()]*\)|\((?:[^()]|\([^()]*\))*\))*\)|\S+))$", before)
+    if m and len(parts) == len(names):
+        before, parts = before[: m.start()], [f"{m[1]} ({p})" for p in parts]
     if len(parts) != len(names) or not re.search(r"(=|\bin)$", before):
         return None
     return before + " record { " + " ".join(f"{n} = {p.strip()};" for n, p in zip(names, parts)) + " }"
