@@ -99,6 +99,11 @@ class Function:
 
     def facts(self, p, rest):
         """The fields below a step: a branch's fact, a clause by its name, what a call keeps of a lent slice."""
+        if p[1] is None and len(rest) > 1 and rest[0] in ("args", "ranges"):
+            return [rest[0], rest[1].replace("-", "_"), *rest[2:]]
+        loop = loop_of(self.data, p[2][0])
+        if loop and rest and "-" in rest[0]:
+            rest = [next((v for v in loop[1] if alike(v) == alike(rest[0])), rest[0]), *rest[1:]]
         for old, new in p[4]:
             if rest[:1] == [old]:
                 return [new, *rest[1:]]
@@ -133,7 +138,7 @@ class Function:
     def meant(self, place, befores, first):
         """The step that a path means: the one so far back, or where the steps are counted otherwise today, the nearest so named."""
         fits = lambda q: (
-            first in ("args", "requires", "ranges", "lifetimes")
+            first in ("args", "requires", "pre", "ranges", "well-formed", "lifetimes")
             if self.places[q][1] is None
             else alike(self.places[q][2][0]) == alike(first) or any(alike(e[1]) == alike(first) for a in self.arms.get(q, []) for e in a[2])
         )
@@ -173,16 +178,18 @@ class Function:
                 return ["type_inv", known, *rest[2:]]
             return [new, *self.facts(p, rest[1:])]
         if p[1] is None:
-            return self.facts(p, ["well_formed", *rest[1:]] if rest[0] == "well-formed" else rest)
+            return self.facts(p, [{"well-formed": "well_formed", "pre": "requires"}.get(rest[0], rest[0]), *rest[1:]])
         return rest
 
     def turned(self, place, text, var="c"):
         # a local that stands for a path from an earlier step: today all steps are fields of one record
         names = {var: (place, [])}
+        bound = set(" ".join(re.findall(rf"λ \(?((?:{NAME} )*{NAME})", text)).split())
         while True:
             heads = "|".join(re.escape(n) for n in names)
-            m = re.search(rf"\blet ({NAME}) = ({heads})((?:\.{NAME})*) in(?=\s|$)\s*", text)
-            if not m or m[1] in names:
+            lets = re.finditer(rf"\blet ({NAME}) = ({heads})((?:\.{NAME})*) in(?=\s|$)\s*", text)
+            m = next((m for m in lets if m[1] not in names and m[1] not in bound), None)
+            if not m:
                 break
             at, before = names[m[2]]
             names[m[1]] = (at, before + [t for t in m[3].split(".") if t])
@@ -191,7 +198,7 @@ class Function:
         def one(m):
             at, before = names[m[1]]
             tokens = before + [t for t in m[2].split(".") if t]
-            if not tokens or re.search(rf"λ \(?(?:{NAME} )*$", m.string[: m.start()]):
+            if not tokens:
                 return m[0]
             new = self.path(at, tokens)
             if new is None:
@@ -263,13 +270,9 @@ def invariant(data, s):
 
 def helper_of(b):
     """A lemma of the file over an earlier step: (name, its variable, the step, its type, its body), or None."""
-    s = split_signature(b)
-    m = s and re.match(rf"\(({NAME}) : tie\.({NAME})\) → (.*)$", s[2], re.S)
-    if not m or s[3]:
-        return None
-    body = "\n".join(l for l in s[4] if l.strip() and not l.startswith("--"))
-    d = re.match(rf"{re.escape(s[1])} ({NAME}) =\s*(.*)$", body, re.S)
-    return (s[1], m[1], m[2], m[3], d[1], d[2]) if d else None
+    text = "\n".join(l for l in b if l.strip() and not l.startswith("--"))
+    m = re.match(rf"({NAME}) : \(({NAME}) : tie\.({NAME})\)\s*→\s*(.*?)\n(?:unfolding [^\n]*\n)?\1 ({NAME}) =\s*(.*)$", text, re.S)
+    return m.groups() if m else None
 
 
 def with_helpers(f, helpers, body, var):
