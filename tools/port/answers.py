@@ -329,9 +329,39 @@ def by_clause(body, names):
     m = re.search(r"(?:(?<=in)|(?<==))\s+(rw (?:\((?:[^()]|\([^()]*\)|\((?:[^()]|\([^()]*\))*\))*\)|\S+))$", before)
     if m and len(parts) == len(names):
         before, parts = before[: m.start()], [f"{m[1]} ({p})" for p in parts]
+    # a lemma that proves all clauses at once
+    whole = re.match(rf"((?:{NAME} (?:{NAME} )*)?=\s*)((?:let .*? in\s+)*)({NAME}(?: (?:{NAME}(?:\.{NAME})*|\([^()]*\)))+)$", body.strip(), re.S)
+    if len(parts) != len(names) and whole and not whole[3].startswith(("rw ", "simp ", "record ")):
+        before = (whole[1] + whole[2]).rstrip()
+        parts = [f"({whole[3]})" + ".1" * k + (".0" if k < len(names) - 1 else "") for k in range(len(names))]
     if len(parts) != len(names) or not re.search(r"(=|\bin)$", before):
         return None
     return before + " record { " + " ".join(f"{n} = {p.strip()};" for n, p in zip(names, parts)) + " }"
+
+
+def in_order(out):
+    """The lines of the answers, each behind those that it cites."""
+    named = {a[1]: a for a in out if isinstance(a, tuple)}
+    cited = lambda a: [n for n in named if n != a[1] and re.search(rf"(?<![^\s(){{}};,]){re.escape(n)}(?= c\b)", "\n".join(a[3]))]
+    lines, done = [], set()
+
+    def put(a):
+        if a[1] in done:
+            return
+        done.add(a[1])
+        for n in cited(a):
+            put(named[n])
+        text = "\n".join(a[3])
+        for n in cited(a):
+            text = re.sub(rf"(?<![^\s(){{}};,]){re.escape(n)}(?= c\b)", named[n][2], text)
+        lines.extend(text.split("\n"))
+
+    for a in out:
+        if isinstance(a, tuple):
+            put(a)
+        else:
+            lines.append(a)
+    return lines
 
 
 def turn(path, name, data, crate, table):
@@ -406,7 +436,7 @@ def turn(path, name, data, crate, table):
                     out += ["-- LEFT " + l for l in body.split("\n")] + [""]
                     continue
                 body = recorded
-            out += [l for l in comments if l.strip()] + [f"pub {new} : goal.{new}"] + ([unfolding] if unfolding else []) + [body, ""]
+            out += [("answer", name_, new, [l for l in comments if l.strip()] + [f"pub {new} : goal.{new}"] + ([unfolding] if unfolding else []) + [body, ""])]
         elif len(given) == len(needs):
             a = given[k]
             m = re.match(r"\(λ ([^.]*)\. (.*)\)$", a, re.S)
@@ -421,14 +451,34 @@ def turn(path, name, data, crate, table):
                     continue
                 body = recorded[2:]
             out += [f"pub {new} : goal.{new}", f"{new} {m[1].replace(' κs', '')} = {body}", ""]
+    out = in_order(out)
     folder = os.path.dirname(path)
     module = re.search(r"use (Rattle\.\S+)\.Tie as tie", text)[1]
     uses = [u for u in uses if not re.search(r"\.(Tie as tie|Statement\.\{statement\})", u)]
     head = [u for u in uses if u.startswith("--")]
     uses = [u for u in uses if u.startswith("use ")]
-    joined = "\n".join(helpers + out)
+    # what an invariant cites stands beside it
+    moved, names = [], []
     if invariants:
-        inv = [f"-- The invariants and measures of the loops of `{name}`."] + uses + [f"use {module}.Given as goal", ""]
+        cited = "\n".join("\n".join(s[4]) for s in invariants)
+        parts = blocks("\n".join(helpers)) if helpers else []
+        heads = [next((m[1] for l in b for m in [re.match(rf"(?:(?:pub|abbrev|unfoldable|record) +)*({NAME})", l)] if m and not l.startswith("--")), None) for b in parts]
+        uses_ = lambda n, t: re.search(rf"(?<![^\s(){{}};,]){re.escape(n)}(?![^\s(){{}};,.])", t)
+        take = [bool(n and uses_(n, cited)) for n in heads]
+        for k in reversed(range(len(parts))):
+            later = "\n".join("\n".join(parts[j]) for j in range(k + 1, len(parts)) if take[j])
+            take[k] = take[k] or bool(heads[k] and uses_(heads[k], later))
+        helpers = [l for k, b in enumerate(parts) if not take[k] for l in b]
+        for k, b in enumerate(parts):
+            if take[k]:
+                names.append(heads[k])
+                for l in b:
+                    if l.startswith(heads[k] + " :") or l.startswith("record "):
+                        l = "pub " + l
+                    l = re.sub(r"^abbrev (?!pub)", "abbrev pub ", l)
+                    moved.append(l)
+    if invariants:
+        inv = [f"-- The invariants and measures of the loops of `{name}`."] + uses + [f"use {module}.Given as goal", ""] + moved
         for s in invariants:
             lines = invariant(data, s)
             if lines is None:
@@ -439,7 +489,7 @@ def turn(path, name, data, crate, table):
             it.write("\n".join(inv))
     if out:
         with open(os.path.join(folder, "Answers.antt"), "w", encoding="utf-8") as it:
-            it.write("\n".join(head + uses + [f"use {module}.Goals as goal", ""] + helpers + out).rstrip() + "\n")
+            it.write("\n".join(head + uses + ([f"use {module}.Invariants.{{{', '.join(names)}}}"] if names else []) + [f"use {module}.Goals as goal", ""] + helpers + out).rstrip() + "\n")
     if not said:
         os.remove(path)
     else:

@@ -1,0 +1,58 @@
+-- `gates::add::rounds` meets its contract. Rests on Rounds for what is left before a round, and on and_parts' Running for steps done in parts.
+use mathlib.Core.Path.{◌∙◌}
+use mathlib.Core.List.{List, ◌++◌}
+use mathlib.Core.Logic.{⊎_elim}
+use Prim.Native.Nat.{◌-◌}
+use native.Mathlib.Omega.{arith}
+use borrow.Author.Rules.{rules}
+use borrow.Author.Tests.{lt-ltb, le-ltb}
+use Rattle.word.specs.declared.step.Step.{Step}
+use Rattle.word.specs.declared.step.Step.TheVariants.{Xor}
+use Rattle.masking.specs.Translation.{scratch, block, blocks, passed, rounds, r_g, r_t}
+use Rattle.and_parts.specs.declared.once.Op.TheVariants as op
+use Rattle.and_parts.proofs.Running.{Left, start, part, blocks_part, blocks_enough}
+use Rattle.gates.proofs.Named.{helper_named, once_ran}
+use Rattle.gates.proofs.Rounds.{begun, mixed, ended, Rest, first, bounds, next, final}
+use Rattle.gates.proofs.add.rounds.Goals as goal
+
+pub loop-k-init : goal.loop-k-init
+loop-k-init c = (rounds, first, start _ _ _ _)
+
+pub begun-t-requires : goal.begun-t-requires
+begun-t-requires c =
+    let N = next c.args.n c.loop-k.invariant.1 c.loop-k.invariant.2 c.loop-k-test.true in record { k_bound = (omega arith, c.requires.n_bound.0, N.2.size ∙ c.requires.n_bound.1, c.requires.n_bound.2, c.requires.n_bound.3, c.requires.n_bound.4); enough = blocks_enough c.args.n (begun c.loop-k.k) (ended c.loop-k.k ++ N.0) N.2 c.requires.enough; }
+
+pub passed-t-requires : goal.passed-t-requires
+passed-t-requires c =
+    let N = next c.args.n c.loop-k.invariant.1 c.loop-k.invariant.2 c.loop-k-test.true in
+    let l = blocks_part c.args.n (begun c.loop-k.k) (ended c.loop-k.k ++ N.0) N.2 c.begun-t.ensures in record { k_bound = (omega arith, c.requires.n_bound.0, l.size ∙ c.requires.n_bound.1, c.requires.n_bound.2, c.requires.n_bound.3, c.requires.n_bound.4); enough = blocks_enough c.args.n (mixed ++ passed c.loop-k.k) N.0 (rw (lt-ltb c.loop-k.k 32 c.if-k-lt32.true) at l) c.requires.enough; }
+
+pub each-requires : goal.each-requires
+each-requires c =
+    let N = next c.args.n c.loop-k.invariant.1 c.loop-k.invariant.2 c.loop-k-test.true in
+    let l = blocks_part c.args.n (begun c.loop-k.k) (ended c.loop-k.k ++ N.0) N.2 c.begun-t.ensures in
+    (c.requires.n_bound.0, l.size ∙ c.requires.n_bound.1, tt, omega arith, omega arith, omega arith)
+
+pub loop-k-smaller : goal.loop-k-smaller
+loop-k-smaller c = omega (arith, bounds c.loop-k.invariant.1)
+
+-- by the branch's arms: the round is done
+pub loop-k-preserved : goal.loop-k-preserved
+loop-k-preserved c =
+    let N = next c.args.n c.loop-k.invariant.1 c.loop-k.invariant.2 c.loop-k-test.true in
+    let l = blocks_part c.args.n (begun c.loop-k.k) (ended c.loop-k.k ++ N.0) N.2 c.begun-t.ensures in
+    let G = helper_named 1 (omega arith) in
+    let T = helper_named 3 (omega arith) in (
+      N.0,
+      N.1,
+      ⊎_elim
+          (λ x. rw (x.5, x.6) (blocks_part c.args.n (mixed ++ passed c.loop-k.k) N.0 (rw (lt-ltb c.loop-k.k 32 x.0.taken) at l) x.2.ensures))
+          (λ x. rw (x.5, x.6) (part (block scratch c.args.n (Xor r_g r_g r_t)) (blocks scratch c.args.n N.0) (rw (le-ltb c.loop-k.k 32 x.0.left) at l) (once_ran op.Xor c.args.n G G T c.args.tape.now c.begun-t.result x.2.ensures)))
+          c.if-k-lt32.branch,
+    )
+
+pub shape_of-cells : goal.shape_of-cells
+shape_of-cells c = c.loop-k.invariant.2.size
+
+pub returns : goal.returns
+returns c = final c.args.n c.loop-k.invariant.1 c.loop-k.invariant.2 c.loop-k-test.false
