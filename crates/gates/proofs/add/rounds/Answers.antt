@@ -1,7 +1,6 @@
 -- `gates::add::rounds` meets its contract. Rests on Rounds for what is left before a round, and on and_parts' Running for steps done in parts.
 use mathlib.Core.Path.{◌∙◌}
 use mathlib.Core.List.{List, ◌++◌}
-use mathlib.Core.Logic.{⊎_elim}
 use Prim.Native.Nat.{◌-◌}
 use native.Mathlib.Omega.{arith}
 use borrow.Author.Rules.{rules}
@@ -14,6 +13,7 @@ use Rattle.and_parts.proofs.Running.{Left, start, part, blocks_part, blocks_enou
 use Rattle.gates.proofs.Named.{helper_named, once_ran}
 use Rattle.gates.proofs.Rounds.{begun, mixed, ended, Rest, first, bounds, next, final}
 use Rattle.gates.proofs.add.rounds.Goals as goal
+use Rattle.gates.proofs.add.rounds.Goals.{then-k-lt32, else-k-lt32}
 
 pub loop-k-init : goal.loop-k-init
 loop-k-init c = (rounds, first, start _ _ _ _)
@@ -45,10 +45,12 @@ loop-k-preserved c =
     let T = helper_named 3 (omega arith) in (
       N.0,
       N.1,
-      ⊎_elim
-          (λ x. rw (x.5, x.6) (blocks_part c.args.n (mixed ++ passed c.loop-k.k) N.0 (rw (lt-ltb c.loop-k.k 32 x.0.taken) at l) x.2.ensures))
-          (λ x. rw (x.5, x.6) (part (block scratch c.args.n (Xor r_g r_g r_t)) (blocks scratch c.args.n N.0) (rw (le-ltb c.loop-k.k 32 x.0.left) at l) (once_ran op.Xor c.args.n G G T c.args.tape.now c.begun-t.result x.2.ensures)))
-          c.if-k-lt32.branch,
+      elim c.if-k-lt32.branch [
+        then-k-lt32 x ↦
+          rw (x.t-is, x.cells-is) (blocks_part c.args.n (mixed ++ passed c.loop-k.k) N.0 (rw (lt-ltb c.loop-k.k 32 x.if-k-lt32.true) at l) x.passed-t.ensures)
+      | else-k-lt32 x ↦
+          rw (x.t-is, x.cells-is) (part (block scratch c.args.n (Xor r_g r_g r_t)) (blocks scratch c.args.n N.0) (rw (le-ltb c.loop-k.k 32 x.if-k-lt32.false) at l) (once_ran op.Xor c.args.n G G T c.args.tape.now c.begun-t.result x.each.ensures))
+      ],
     )
 
 pub shape_of-cells : goal.shape_of-cells
