@@ -184,11 +184,10 @@ class Function:
     def turned(self, place, text, var="c"):
         # a local that stands for a path from an earlier step: today all steps are fields of one record
         names = {var: (place, [])}
-        bound = set(" ".join(re.findall(rf"λ \(?((?:{NAME} )*{NAME})", text)).split())
         while True:
             heads = "|".join(re.escape(n) for n in names)
             lets = re.finditer(rf"\blet ({NAME}) = ({heads})((?:\.{NAME})*) in(?=\s|$)\s*", text)
-            m = next((m for m in lets if m[1] not in names and m[1] not in bound), None)
+            m = next((m for m in lets if m[1] not in names), None)
             if not m:
                 break
             at, before = names[m[2]]
@@ -198,7 +197,7 @@ class Function:
         def one(m):
             at, before = names[m[1]]
             tokens = before + [t for t in m[2].split(".") if t]
-            if not tokens:
+            if not tokens or bound_at(m.string, m.start(), m[1]):
                 return m[0]
             new = self.path(at, tokens)
             if new is None:
@@ -294,6 +293,26 @@ def with_helpers(f, helpers, body, var):
     return body, lets
 
 
+def bound_at(text, at, name):
+    """Whether a λ around a place binds the name there."""
+    depth = 0
+    for i in range(at - 1, -1, -1):
+        if text[i] in ")]}":
+            depth += 1
+        elif text[i] in "([{":
+            depth -= 1
+            if depth < 0:
+                depth = 0
+                m = re.match(r"\(λ ([^.]*)\.(?=\s)", text[i:at])
+                if m and name in re.findall(NAME, m[1]):
+                    return True
+                # the binders of a λ themselves
+                if re.search(r"λ $", text[:i]):
+                    return True
+    m = re.search(r"λ ([^.()]*)$", text[:at])
+    return bool(m)
+
+
 def tuple_at_end(body):
     """The text before a tuple that ends it, and the tuple's parts."""
     body = body.rstrip()
@@ -342,7 +361,7 @@ def by_clause(body, names):
 def in_order(out):
     """The lines of the answers, each behind those that it cites."""
     named = {a[1]: a for a in out if isinstance(a, tuple)}
-    cited = lambda a: [n for n in named if n != a[1] and re.search(rf"(?<![^\s(){{}};,]){re.escape(n)}(?= c\b)", "\n".join(a[3]))]
+    cited = lambda a: [n for n in named if n != a[1] and re.search(rf"(?<=[ (]){re.escape(n)}(?= c\b)", "\n".join(a[3]))]
     lines, done = [], set()
 
     def put(a):
@@ -353,7 +372,7 @@ def in_order(out):
             put(named[n])
         text = "\n".join(a[3])
         for n in cited(a):
-            text = re.sub(rf"(?<![^\s(){{}};,]){re.escape(n)}(?= c\b)", named[n][2], text)
+            text = re.sub(rf"(?<=[ (]){re.escape(n)}(?= c\b)", named[n][2], text)
         lines.extend(text.split("\n"))
 
     for a in out:

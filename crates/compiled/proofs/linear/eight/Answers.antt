@@ -1,0 +1,6 @@
+-- `compiled::linear::eight` meets its contract.
+use borrow.Author.Rules.{rules}
+use Rattle.compiled.proofs.linear.eight.Goals as goal
+
+pub returns : goal.returns
+returns c = rw (c.four-2.ensures, c.four.ensures)

@@ -1,0 +1,6 @@
+-- `compiled::linear::four` meets its contract.
+use borrow.Author.Rules.{rules}
+use Rattle.compiled.proofs.linear.four.Goals as goal
+
+pub returns : goal.returns
+returns c = rw (c.two-2.ensures, c.two.ensures)

@@ -1,0 +1,8 @@
+-- `compiled::linear::linear` meets its contract.
+use borrow.Author.Rules.{rules}
+use Rattle.compiled.specs.inner.OnShare.{on_share}
+use Rattle.compiled.proofs.linear.linear.Goals as goal
+
+pub returns : goal.returns
+unfolding on_share
+returns c = rw (← c.value.ensures)

@@ -1,0 +1,6 @@
+-- `compiled::linear::sixteen` meets its contract.
+use borrow.Author.Rules.{rules}
+use Rattle.compiled.proofs.linear.sixteen.Goals as goal
+
+pub returns : goal.returns
+returns c = rw (c.eight-2.ensures, c.eight.ensures)

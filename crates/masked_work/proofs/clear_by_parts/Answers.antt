@@ -1,0 +1,21 @@
+-- `masked_work::clear_by_parts` meets its contract.
+use mathlib.Core.Path.{◌≡◌, refl, ◌∙◌}
+use Prim.Native.Nat.{◌-◌, ◌≤◌}
+use native.Mathlib.Omega.{arith}
+use lib.ListN.{length}
+use borrow.Author.Rules.{rules}
+use Rattle.masked_call.proofs.Filling.{Filled, none_filled, part_filled, part_size, all_zero}
+use Rattle.masked_work.proofs.clear_by_parts.Goals as goal
+
+pub loop-at-init : goal.loop-at-init
+loop-at-init c = (omega arith, refl, none_filled (λ k. 0) c.args.cells.now)
+
+pub loop-at-preserved : goal.loop-at-preserved
+loop-at-preserved c =
+    (omega arith, part_size c.loop-at.at c.part_end-end.result c.loop-at.cells _ c.zeros.ensures ∙ c.loop-at.invariant.1, part_filled c.loop-at.at c.part_end-end.result c.loop-at.cells _ (omega arith) (omega arith) c.loop-at.invariant.2 c.zeros.ensures)
+
+pub shape_of-cells : goal.shape_of-cells
+shape_of-cells c = c.loop-at.invariant.1
+
+pub returns : goal.returns
+returns c = all_zero _ _ c.loop-at.invariant.1 (λ k h. c.loop-at.invariant.2 k (omega arith))

@@ -1,0 +1,6 @@
+-- `masked_work::end` meets its contract.
+use borrow.Author.Rules.{rules}
+use Rattle.masked_work.proofs.end.Goals as goal
+
+pub returns : goal.returns
+returns c = (c.copy_out.ensures, c.clear.ensures)
