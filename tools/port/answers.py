@@ -25,7 +25,7 @@ def blocks(text):
     """The top declarations of a file: comment and blank lines before go with each."""
     out, now = [], []
     for line in text.split("\n"):
-        starts = line[:1] not in ("", " ", "\t")
+        starts = line[:1] not in ("", " ", "\t", ")", "]", "}")
         if starts and now and not all(l.startswith("--") or not l.strip() for l in now):
             prior = [l for l in now if l.strip() and not l.startswith("--")]
             head = re.match(rf"(?:(?:pub|abbrev|unfoldable) +)*({NAME})", line)
@@ -100,8 +100,10 @@ class Function:
     def facts(self, p, rest):
         """The fields below a step: a branch's fact, a clause by its name, what a call keeps of a lent slice."""
         if p[1] is None and len(rest) > 1 and rest[0] in ("args", "ranges"):
-            return [rest[0], rest[1].replace("-", "_"), *rest[2:]]
+            return [rest[0], "res" if rest[1] == "result" else rest[1].replace("-", "_"), *rest[2:]]
         loop = loop_of(self.data, p[2][0])
+        if loop and rest[:1] == ["result"] and "res" in loop[1]:
+            return ["res", *rest[1:]]
         if loop and rest and "-" in rest[0]:
             rest = [next((v for v in loop[1] if alike(v) == alike(rest[0])), rest[0]), *rest[1:]]
         for old, new in p[4]:
@@ -125,11 +127,11 @@ class Function:
             names = self.clauses.get(name, {}).get("ensures", [])
             if len(names) == 1 and names[0]:
                 return ["ensures", names[0], *rest[1:]]
-        if p[3] and len(rest) > 1 and rest[0] == "auto" and rest[1].isdigit():
+        if p[3] and len(rest) > 1 and rest[0] in ("auto", "new") and rest[1].isdigit():
             k = 1
             while rest[k : k + 1] == ["1"]:
                 k += 1
-            return ["auto", self.data["params"][p[3]][k - 1], *rest[k + 1 :]]
+            return [rest[0], self.data["params"][p[3]][k - 1], *rest[k + 1 :]]
         return rest
 
     def typed(self, place):

@@ -54,4 +54,4 @@ pub shape_of-res : goal.shape_of-res
 shape_of-res c = c.loop-i.invariant.1
 
 pub returns : goal.returns
-returns c = all_filled (λ k. get_or c.args.cells.now (cell k 2) 0) c.loop-i.result (length c.args.res.now) c.loop-i.invariant.1 (λ k h. c.loop-i.invariant.2 k (omega arith))
+returns c = all_filled (λ k. get_or c.args.cells.now (cell k 2) 0) c.loop-i.res (length c.args.res.now) c.loop-i.invariant.1 (λ k h. c.loop-i.invariant.2 k (omega arith))
