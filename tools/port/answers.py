@@ -272,7 +272,7 @@ def invariant(data, s):
 def helper_of(b):
     """A lemma of the file over an earlier step: (name, its variable, the step, its type, its body), or None."""
     text = "\n".join(l for l in b if l.strip() and not l.startswith("--"))
-    m = re.match(rf"({NAME}) : \(({NAME}) : tie\.({NAME})\)\s*→\s*(.*?)\n(?:unfolding [^\n]*\n)?\1 ({NAME}) =\s*(.*)$", text, re.S)
+    m = re.match(rf"(?:abbrev )?({NAME}) : \(({NAME}) : tie\.({NAME})\)\s*→\s*(.*?)\n(?:unfolding [^\n]*\n)?\1 ({NAME}) =\s*(.*)$", text, re.S)
     return m.groups() if m else None
 
 
@@ -353,8 +353,8 @@ def by_clause(body, names):
     # a lemma that proves all clauses at once
     whole = re.match(rf"((?:{NAME} (?:{NAME} )*)?=\s*)((?:let .*? in\s+)*)({NAME}(?: (?:{NAME}(?:\.{NAME})*|\([^()]*\)))+)$", body.strip(), re.S)
     if len(parts) != len(names) and whole and not whole[3].startswith(("rw ", "simp ", "record ")):
-        before = (whole[1] + whole[2]).rstrip()
-        parts = [f"({whole[3]})" + ".1" * k + (".0" if k < len(names) - 1 else "") for k in range(len(names))]
+        before = whole[1].rstrip() + "\n    " + whole[2] + f"let all = {whole[3]} in"
+        parts = ["all" + ".1" * k + (".0" if k < len(names) - 1 else "") for k in range(len(names))]
     if len(parts) != len(names) or not re.search(r"(=|\bin)$", before):
         return None
     return before + " record { " + " ".join(f"{n} = {p.strip()};" for n, p in zip(names, parts)) + " }"

@@ -12,4 +12,6 @@ pub slice_bounds-call-end : goal.slice_bounds-call-end
 slice_bounds-call-end c = sym (length-take-le _ _ (omega (arith, c.at_most_eight-n.ensures)))
 
 pub returns : goal.returns
-returns c = record { answer = (one_operand floor_plan c.args.x.now c.args.x.now c.args.work.now c.args.tape.now (rw c.at_most_eight-n.ensures at c.call.ensures)).0; x = (one_operand floor_plan c.args.x.now c.args.x.now c.args.work.now c.args.tape.now (rw c.at_most_eight-n.ensures at c.call.ensures)).1.0; work = (one_operand floor_plan c.args.x.now c.args.x.now c.args.work.now c.args.tape.now (rw c.at_most_eight-n.ensures at c.call.ensures)).1.1; }
+returns c =
+    let all = one_operand floor_plan c.args.x.now c.args.x.now c.args.work.now c.args.tape.now (rw c.at_most_eight-n.ensures at c.call.ensures.answer, (rw c.at_most_eight-n.ensures at c.call.ensures.x, rw c.at_most_eight-n.ensures at c.call.ensures.work)) in
+    record { answer = all.0; x = all.1.0; work = all.1.1; }

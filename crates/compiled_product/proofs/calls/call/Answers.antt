@@ -15,7 +15,9 @@ end-requires c =
     to_end product_plan c.args.x.now c.args.y.now c.args.res.now c.args.work.now c.args.tape.now _ takes c.operation_answer-answer.result c.operation_answer-answer.ensures c.if-answer-eq0.true c.finish.auto.work
 
 pub returns-then-answer-eq0 : goal.returns-then-answer-eq0
-returns-then-answer-eq0 c = record { answer = (acted product_plan c.args.x.now c.args.y.now c.args.res.now c.args.work.now c.args.tape.now _ takes c.operation_answer-answer.result c.operation_answer-answer.ensures c.if-answer-eq0.true c.finish.new.work c.finish.auto.work c.finish.ensures c.end.ensures).0; res = (acted product_plan c.args.x.now c.args.y.now c.args.res.now c.args.work.now c.args.tape.now _ takes c.operation_answer-answer.result c.operation_answer-answer.ensures c.if-answer-eq0.true c.finish.new.work c.finish.auto.work c.finish.ensures c.end.ensures).1.0; work = (acted product_plan c.args.x.now c.args.y.now c.args.res.now c.args.work.now c.args.tape.now _ takes c.operation_answer-answer.result c.operation_answer-answer.ensures c.if-answer-eq0.true c.finish.new.work c.finish.auto.work c.finish.ensures c.end.ensures).1.1; }
+returns-then-answer-eq0 c =
+    let all = acted product_plan c.args.x.now c.args.y.now c.args.res.now c.args.work.now c.args.tape.now _ takes c.operation_answer-answer.result c.operation_answer-answer.ensures c.if-answer-eq0.true c.finish.new.work c.finish.auto.work c.finish.ensures c.end.ensures in record { answer = all.0; res = all.1.0; work = all.1.1; }
 
 pub returns-else-answer-eq0 : goal.returns-else-answer-eq0
-returns-else-answer-eq0 c = record { answer = (turned_down product_plan c.args.x.now c.args.y.now c.args.res.now c.args.work.now c.args.tape.now _ takes c.operation_answer-answer.result c.operation_answer-answer.ensures c.if-answer-eq0.false).0; res = (turned_down product_plan c.args.x.now c.args.y.now c.args.res.now c.args.work.now c.args.tape.now _ takes c.operation_answer-answer.result c.operation_answer-answer.ensures c.if-answer-eq0.false).1.0; work = (turned_down product_plan c.args.x.now c.args.y.now c.args.res.now c.args.work.now c.args.tape.now _ takes c.operation_answer-answer.result c.operation_answer-answer.ensures c.if-answer-eq0.false).1.1; }
+returns-else-answer-eq0 c =
+    let all = turned_down product_plan c.args.x.now c.args.y.now c.args.res.now c.args.work.now c.args.tape.now _ takes c.operation_answer-answer.result c.operation_answer-answer.ensures c.if-answer-eq0.false in record { answer = all.0; res = all.1.0; work = all.1.1; }
