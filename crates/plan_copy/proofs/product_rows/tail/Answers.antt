@@ -3,12 +3,8 @@ use mathlib.Core.Path.{refl}
 use Rattle.word.specs.Encoding.{put}
 use Rattle.plans.specs.words.ProductPlan.{last_rows, product_end, product_tail}
 use Rattle.plans.specs.ProductRows.{tail_words}
-use Rattle.plan_copy.proofs.product_rows.tail.Statement.{statement}
-use Rattle.plan_copy.proofs.product_rows.tail.Tie as tie
+use Rattle.plan_copy.proofs.product_rows.tail.Goals as goal
 
-returns : tie.Need-returns
+pub returns : goal.returns
 unfolding tail_words last_rows product_end product_tail put
 returns c = refl
-
-pub tail_spec : {M : Type 1} → statement M
-tail_spec = tie.close (tie.spec returns)

@@ -2,12 +2,8 @@
 use mathlib.Core.Path.{refl}
 use Rattle.word.specs.Encoding.{put}
 use Rattle.plans.specs.words.SumPlan.{sum_plan}
-use Rattle.plan_copy.proofs.sum_table.words.Statement.{statement}
-use Rattle.plan_copy.proofs.sum_table.words.Tie as tie
+use Rattle.plan_copy.proofs.sum_table.words.Goals as goal
 
-returns : tie.Need-returns
+pub returns : goal.returns
 unfolding sum_plan put
 returns c = refl
-
-pub words_spec : {M : Type 1} → statement M
-words_spec = tie.close (tie.spec returns)

@@ -6,16 +6,11 @@ use Rattle.word.specs.Encoding.{put}
 use Rattle.plans.specs.words.ProductPlan.{product_row, carry_row}
 use Rattle.plans.specs.ProductRows.{row_words}
 use Rattle.plans.proofs.product.Words.{by_rows}
-use Rattle.plan_copy.proofs.product_rows.row.Statement.{statement}
-use Rattle.plan_copy.proofs.product_rows.row.Tie as tie
+use Rattle.plan_copy.proofs.product_rows.row.Goals as goal
 
-returns : tie.Need-returns
+pub overflow_add-words : goal.overflow_add-words
+overflow_add-words c = omega arith
+
+pub returns : goal.returns
 unfolding row_words product_row carry_row put
 returns c = sym (by_rows.rows c.args.q c.requires)
-
-pub row_spec : {M : Type 1} → statement M
-row_spec = tie.close (tie.spec
-    (λ c. search rules)
-    (λ c. omega arith)
-    (λ c. search rules)
-    returns)
