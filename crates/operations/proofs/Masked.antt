@@ -16,7 +16,6 @@ use Rattle.masked_call.proofs.Known.{uncleared_steps}
 use Rattle.operations.proofs.Joined.{accepted, plan_joins}
 use Rattle.operations.proofs.CallJoined.{call_joins}
 use Rattle.operations.proofs.Secret.{operation_secret}
-use Rattle.operations.proofs.Tape.{random_words}
 
 -- a plan with what it computes is not too long and has no bad word
 pub good : {plan : List ℕ} {op : ℕ → ℕ → ℕ} → Computes plan op → GoodPlan plan
@@ -49,7 +48,3 @@ pub masked : Masked
 masked o =
     let B = built_ins o in
     on_shares (plan_of o) (on_words o) B.computes (any_start B.computes (described o).operands (operands_low o) B.inputs)
-
--- what a call leaves, and with it what is proved of every operation
-pub with_held : {A B C : Type 0} → A × (B × C) → A × (B × (C × (Masked × RandomWords)))
-with_held h = (h.0, (h.1.0, (h.1.1, (masked, random_words))))
