@@ -2,38 +2,39 @@
 // number of the turn-down. A piece of some tens of kilobytes is held at a time, never the whole share program.
 #![tactic(auto)]
 
-ghost use Rattle.std.specs.Prelude.{◌≡◌, ◌<◌, length, take};
+ghost use Rattle.std.specs.Prelude.{◌≡◌, ◌<◌, length, take, Some};
 ghost use Rattle.io.specs.Counts.{IsPrefixLen};
 ghost use Rattle.listing_input.specs.Input.{input_max};
 ghost use Rattle.listing.specs.Sharelist.{listing};
 ghost use Rattle.sharelist.specs.HandedOn.{Follows, HandedAll, HandedOn, standard_output};
 ghost use Rattle.sharelist.specs.Whole.{MoreRead, WasRead, Whole, standard_input};
 
-use libc::{STDERR_FILENO, STDIN_FILENO, STDOUT_FILENO};
 use listing::pieces::list_piece;
 use listing_input::INPUT_MAX;
+use std::io::{Read, Write};
+use std::os::fd::AsRawFd;
 
 // One byte more than an input may have, so that a longer one is seen.
 const INPUT: usize = INPUT_MAX + 1;
 
-// Hands on, to standard output, bytes of an input's listing that follow the `sent` ones counted before, and counts them; where that fails it says
-// so, and counts none.
-fn hand_on(fd: i32, input: &[u8], text: &[u8], sent: &mut usize) -> bool
-    requires fd_value { fd ≡ standard_output }
+// Hands on, to standard output, bytes of an input's listing that follow the `sent` ones counted before, and counts them; where that fails it counts
+// none.
+fn hand_on<W: Write + AsRawFd + Copy>(out: W, input: &[u8], text: &[u8], sent: &mut usize) -> bool
+    requires fd_value { W.raw_fd out ≡ Some standard_output }
     requires follows { Follows (listing input.now) sent.old text.now }
     ensures { HandedOn sent.old text.now result sent.new }
 {
-    if io::write_all(fd, text) {
+    let mut out = out;
+    if out.write_all(text).is_ok() {
         *sent = *sent + text.len();
         return true;
     }
-    io::write_all(STDERR_FILENO, b"sharelist: cannot write\n");
     false
 }
 
 // Hands on the listing of an input piece by piece, as long as that goes well; the answer is whether it did to the end.
-fn list(fd: i32, input: &[u8], sent: &mut usize) -> bool
-    requires fd_value { fd ≡ standard_output }
+fn list<W: Write + AsRawFd + Copy>(out: W, input: &[u8], sent: &mut usize) -> bool
+    requires fd_value { W.raw_fd out ≡ Some standard_output }
     requires sent_value { sent.old ≡ 0 }
     ensures { HandedAll (listing input.now) result sent.new }
 {
@@ -42,7 +43,7 @@ fn list(fd: i32, input: &[u8], sent: &mut usize) -> bool
     loop {
         let piece = list_piece(input, at, &mut buffer);
         let bytes = piece.bytes;
-        if !hand_on(fd, input, &buffer[..bytes], sent) {
+        if !hand_on(out, input, &buffer[..bytes], sent) {
             return false;
         }
         if piece.last {
@@ -60,24 +61,28 @@ struct Input {
 }
 
 // The listing of what was read, where it is whole.
-fn list_read(fd: i32, buffer: &[u8], read: Input, sent: &mut usize) -> bool
-    requires fd_value { fd ≡ standard_output }
+fn list_read<W: Write + AsRawFd + Copy>(out: W, buffer: &[u8], read: Input, sent: &mut usize) -> bool
+    requires fd_value { W.raw_fd out ≡ Some standard_output }
     requires prefix_len { IsPrefixLen read.count buffer.now }
     requires whole { Whole read.count read.last }
     requires sent_value { sent.old ≡ 0 }
     ensures { HandedAll (listing (take read.count buffer.now)) result sent.new }
 {
     let count = read.count;
-    list(fd, &buffer[..count], sent)
+    list(out, &buffer[..count], sent)
 }
 
 // One read behind the first `count` bytes, of which there is room for more: they stay, and the answer's bytes are counted.
-fn read_more(fd: i32, input: &mut [u8], count: usize) -> Input
-    requires fd_value { fd ≡ standard_input }
+fn read_more<R: Read + AsRawFd + Copy>(from: R, input: &mut [u8], count: usize) -> Input
+    requires fd_value { R.raw_fd from ≡ Some standard_input }
     requires count_in_bounds { count < length input.old }
     ensures { MoreRead input.old count input.new result.count result.last }
 {
-    let last = libc::read(fd, &mut input[count..]);
+    let mut from = from;
+    let last = match from.read(&mut input[count..]) {
+        Ok(given) => given as isize,
+        Err(_) => -1,
+    };
     let more = io::count(last, &input[count..]);
     Input {
         count: count + more,
@@ -87,15 +92,15 @@ fn read_more(fd: i32, input: &mut [u8], count: usize) -> Input
 
 // Reads up to the end of the input, where a read gives no bytes, until the buffer is full, or until a read fails: a read may give fewer bytes
 // than there are.
-fn read_input(fd: i32, input: &mut [u8]) -> Input
-    requires fd_value { fd ≡ standard_input }
+fn read_input<R: Read + AsRawFd + Copy>(from: R, input: &mut [u8]) -> Input
+    requires fd_value { R.raw_fd from ≡ Some standard_input }
     requires input_max_in_bounds { input_max < length input.old }
     ensures prefix_len { IsPrefixLen result.count input.new }
     ensures was_read { WasRead result.count result.last }
 {
     let mut count = 0;
     loop {
-        let read = read_more(fd, input, count);
+        let read = read_more(from, input, count);
         let last = read.last;
         if last <= 0 {
             return read;
@@ -107,14 +112,16 @@ fn read_input(fd: i32, input: &mut [u8]) -> Input
     }
 }
 
-fn main() {
+fn main(rt: HostRuntime) -> std::io::Result<()> {
     let mut input = [0u8; INPUT];
-    let read = read_input(STDIN_FILENO, &mut input);
+    let read = read_input(rt.stdin(), &mut input);
     let last = read.last;
     if last < 0 {
-        io::write_all(STDERR_FILENO, b"sharelist: cannot read\n");
-        return;
+        return eprintln!(rt; "sharelist: cannot read");
     }
     let mut sent = 0;
-    list_read(STDOUT_FILENO, &input, read, &mut sent);
+    if !list_read(rt.stdout(), &input, read, &mut sent) {
+        return eprintln!(rt; "sharelist: cannot write");
+    }
+    Ok(())
 }

@@ -6,7 +6,7 @@
 mod native;
 mod operands;
 
-use libc::STDOUT_FILENO;
+use std::io;
 
 const PRODUCT: u64 = 0;
 
@@ -81,24 +81,15 @@ fn all(op: u64) -> Tally {
     t
 }
 
-fn counted(label: &[u8], count: u64) {
-    io::write_all(STDOUT_FILENO, label);
-    io::print_decimal(STDOUT_FILENO, count);
+fn report(rt: &HostRuntime, name: &str, t: Tally) -> io::Result<()> {
+    let Tally { same, apart, skipped, different } = t;
+    println!(rt; "{name}: as IEEE 754 {same}, apart from it as the documents say {apart}, skipped {skipped}, different {different}")
 }
 
-fn report(name: &[u8], t: Tally) {
-    io::write_all(STDOUT_FILENO, name);
-    counted(b": as IEEE 754 ", t.same);
-    counted(b", apart from it as the documents say ", t.apart);
-    counted(b", skipped ", t.skipped);
-    counted(b", different ", t.different);
-    io::write_all(STDOUT_FILENO, b"\n");
-}
-
-fn main() {
-    report(b"product", all(PRODUCT));
-    report(b"sum", all(SUM));
-    report(b"floor", all(FLOOR));
-    report(b"truncation", all(TRUNCATE));
-    report(b"nearest", all(NEAREST));
+fn main(rt: HostRuntime) -> io::Result<()> {
+    report(&rt, "product", all(PRODUCT))?;
+    report(&rt, "sum", all(SUM))?;
+    report(&rt, "floor", all(FLOOR))?;
+    report(&rt, "truncation", all(TRUNCATE))?;
+    report(&rt, "nearest", all(NEAREST))
 }

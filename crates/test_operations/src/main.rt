@@ -4,7 +4,7 @@
 
 ghost use Rattle.std.specs.Prelude.{◌≤◌};
 
-use libc::STDOUT_FILENO;
+use std::io;
 
 // The operands of document 01's table, the least and greatest of each kind, and where rounding to a whole number turns.
 const EDGES: [u64; 26] = [
@@ -152,22 +152,17 @@ fn drawn_off(n: usize, tape: &[u64], masks: &[u64]) -> u64
     count
 }
 
-fn line(n: usize, edges: u64, drawn: u64) {
-    io::write_all(STDOUT_FILENO, b"n ");
-    io::print_decimal(STDOUT_FILENO, n as u64);
-    io::write_all(STDOUT_FILENO, b" results over edges that differ ");
-    io::print_decimal(STDOUT_FILENO, edges);
-    io::write_all(STDOUT_FILENO, b" over drawn pairs ");
-    io::print_decimal(STDOUT_FILENO, drawn);
-    io::write_all(STDOUT_FILENO, b"\n");
+fn line(rt: &HostRuntime, n: usize, edges: u64, drawn: u64) -> io::Result<()> {
+    println!(rt; "n {n} results over edges that differ {edges} over drawn pairs {drawn}")
 }
 
-fn main() {
+fn main(rt: HostRuntime) -> io::Result<()> {
     let mut tape = [0u64; 5000];
     test_words::fill(77, &mut tape);
     let mut masks = [0u64; 8];
     test_words::fill(99, &mut masks);
     for n in 2..9usize {
-        line(n, edges_off(n, &tape, &masks), drawn_off(n, &tape, &masks));
+        line(&rt, n, edges_off(n, &tape, &masks), drawn_off(n, &tape, &masks))?;
     }
+    Ok(())
 }

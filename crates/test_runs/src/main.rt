@@ -2,7 +2,7 @@
 // zero, for a plan of every kind and n = 2..8. Writes for each n the counts, what differs and what is left.
 #![tactic(auto)]
 
-use libc::STDOUT_FILENO;
+use std::io;
 
 // CONST, XOR, AND, NOT, SHL, SHR, SPREAD and ADD, with distinct and with equal registers.
 const PLAN: [u32; 12] = [
@@ -46,12 +46,6 @@ fn join_all(cells: &[u64], n: usize, out: &mut [u64]) {
     }
 }
 
-// A label and a number.
-fn noted(label: &[u8], n: u64) {
-    io::write_all(STDOUT_FILENO, label);
-    io::print_decimal(STDOUT_FILENO, n);
-}
-
 // Whether a cell is AND's scratch for n shares: y and z from 256 and 264 on, t and u at 272 and 273.
 fn is_scratch(at: usize, n: usize) -> bool {
     if at < 256 {
@@ -73,14 +67,16 @@ fn left_over(cells: &[u64], n: usize) -> u64 {
     count
 }
 
-fn line(n: usize, words: usize, tape: usize, split: u64, plain: u64, left: u64) {
-    noted(b"n ", n as u64);
-    noted(b" words ", words as u64);
-    noted(b" tape ", tape as u64);
-    noted(b" cells that differ ", split);
-    noted(b" registers that differ ", plain);
-    noted(b" scratch cells left ", left);
-    io::write_all(STDOUT_FILENO, b"\n");
+fn line(
+    rt: &HostRuntime,
+    n: usize,
+    words: usize,
+    tape: usize,
+    split: u64,
+    plain: u64,
+    left: u64,
+) -> io::Result<()> {
+    println!(rt; "n {n} words {words} tape {tape} cells that differ {split} registers that differ {plain} scratch cells left {left}")
 }
 
 // The cells that differ from runs in a row over the same start.
@@ -107,33 +103,36 @@ fn plain_off(n: usize, whole: &[u64]) -> u64 {
 }
 
 // One share count: a run in a go, the same in a row, and the plan unsplit.
-fn compare(n: usize, program: &[u32], tape: &[u64], words: usize) {
+fn compare(rt: &HostRuntime, n: usize, program: &[u32], tape: &[u64], words: usize) -> io::Result<()> {
     let mut whole = [0u64; 512];
     test_words::fill(n as u64, &mut whole);
     let answer = share_run::run::share_run(n, program, 0, tape, 0, words, &mut whole);
     line(
+        rt,
         n,
         answer.words,
         answer.tape,
         split_off(n, program, tape, &whole),
         plain_off(n, &whole),
         left_over(&whole, n),
-    );
+    )
 }
 
-fn translated(n: usize, tape: &[u64], out: &mut [u32]) {
+fn translated(rt: &HostRuntime, n: usize, tape: &[u64], out: &mut [u32]) -> io::Result<()> {
     let answer = translation::translate::translate(n, &PLAN, out);
     let words = answer.words;
     if words <= out.len() {
-        compare(n, &out[..words], tape, words);
+        return compare(rt, n, &out[..words], tape, words);
     }
+    Ok(())
 }
 
-fn main() {
+fn main(rt: HostRuntime) -> io::Result<()> {
     let mut tape = [0u64; 2000];
     test_words::fill(77, &mut tape);
     let mut buffer = [0u32; 10000];
     for n in 2..9usize {
-        translated(n, &tape, &mut buffer);
+        translated(&rt, n, &tape, &mut buffer)?;
     }
+    Ok(())
 }

@@ -1,0 +1,11 @@
+-- `fft_lent::load` meets its contract.
+use mathlib.Core.Path.{ap, ◌∙◌}
+use Prim.Native.Nat.{ℕ}
+use lib.ListN.{replicate}
+use borrow.Author.Rules.{rules}
+use Rattle.fft_lent.proofs.InAndOut.{parts_in}
+use Rattle.fft_lent.proofs.load.Goals as goal
+
+pub returns : goal.returns
+returns c =
+    parts_in c.args.n c.requires.1 c.args.x.now c.args.y.now (c.clear.ensures ∙ ap (λ (k : ℕ). replicate k 0) c.requires.4) c.copy.ensures c.copy-2.ensures c.copy-3.ensures c.copy-4.ensures

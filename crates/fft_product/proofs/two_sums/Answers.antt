@@ -1,0 +1,18 @@
+-- `fft_product::two_sums` meets its contract.
+use mathlib.Core.List.{[], ◌∷◌}
+use native.Mathlib.Omega.{arith}
+use borrow.Author.Rules.{rules}
+use Rattle.binary64.specs.Operations.{Sum}
+use Rattle.fft_numbers.specs.Acts.{Flip, Call}
+use Rattle.fft_numbers.specs.Complex.{slot_ac, slot_bd, slot_ad, slot_bc, slot_re, slot_im}
+use Rattle.fft_slots.proofs.OneByOne.{held_then}
+use Rattle.fft_product.proofs.two_sums.Goals as goal
+
+pub returns : goal.returns
+returns c =
+    let f = Flip slot_bd in
+    let p = Call Sum slot_re slot_ac slot_bd in (
+      omega (arith, c.add-t.ensures.0, c.add.ensures.0),
+      held_then c.args.n c.args.start c.add-t.result c.args.tape.now (f ∷ p ∷ []) (Call Sum slot_im slot_ad slot_bc ∷ []) (omega (arith, c.add-t.ensures.0))
+          (held_then c.args.n c.args.start c.args.start c.args.tape.now (f ∷ []) (p ∷ []) (omega arith) c.flip.ensures c.add-t.ensures.1) c.add.ensures.1,
+    )
