@@ -2,10 +2,6 @@
 use borrow.Author.Rules.{rules}
 use Rattle.emission_pairs.proofs.one_pair.Goals as goal
 
--- LEFT refresh_pair-requires c = rw c.in-Refresh.is at c.requires.1.-?-
-
--- LEFT product_pair-requires c = rw c.in-Products.is at c.requires
-
 pub returns-in-Refresh : goal.returns-in-Refresh
 returns-in-Refresh c = rw c.in-Refresh.is c.refresh_pair.ensures
 

@@ -7,4 +7,4 @@ use Rattle.plain.proofs.stepped.Goals as goal
 
 pub returns : goal.returns
 unfolding stepped
-returns c = c.write.ensures ∙ ap₂ (set c.before.before.before.before.before.before.before.before.args.cells.now{-?-}) c.dest.ensures c.becomes-v.ensures
+returns c = c.write.ensures ∙ ap₂ (set c.args.cells.now) c.dest.ensures c.becomes-v.ensures
