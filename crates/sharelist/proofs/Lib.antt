@@ -1,3 +1,2 @@
--- What a read's answer says (Reading); bytes handed on piece by piece (Handing).
-pub mod Reading
+-- Laws for the proofs of the functions: bytes handed on piece by piece (Handing).
 pub mod Handing
