@@ -1,5 +1,4 @@
 -- `emission_pairs::one_pair` meets its contract.
-use borrow.Author.Rules.{rules}
 use Rattle.emission_pairs.proofs.one_pair.Goals as goal
 
 -- LEFT refresh_pair-requires c = rw c.in-Refresh.is at c.requires.1.-?-

@@ -2,9 +2,8 @@
 use mathlib.Core.Path.{ap₂, ◌∙◌}
 use lib.ListN.{set}
 use Rattle.plain.specs.Machine.{stepped}
-use borrow.Author.Rules.{rules}
 use Rattle.plain.proofs.stepped.Goals as goal
 
 pub returns : goal.returns
 unfolding stepped
-returns c = c.write.ensures ∙ ap₂ (set c.before.before.before.before.before.before.before.before.args.cells.now{-?-}) c.dest.ensures c.becomes-v.ensures
+returns c = c.write.ensures ∙ ap₂ (set c.before.before.before.before.before.before.before.before.args.cells.now {-?-}) c.dest.ensures c.becomes-v.ensures
