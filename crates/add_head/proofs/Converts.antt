@@ -27,7 +27,7 @@ use Rattle.masking.proofs.OneRun.{Taken, good_taken, other_turned}
 use Rattle.masking.proofs.Head.{head_exec, head_rands}
 use Rattle.translation.specs.Calls.{plan_for, translate_answer, translate_out}
 use Rattle.add_head.specs.Conversion.{add_head_answer, add_head_out}
-use Rattle.add_head.specs.Converts.{headless_answer, headless_cells, RunsConverted, Converted, Converts}
+use Rattle.add_head.specs.Converts.{headless_answer, headless_cells, Converted, Converts}
 
 suc_ltb : (a b : ℕ) → ltb (suc a) (suc b) ≡ ltb a b
 suc_ltb a b = by (dec_lt a b)

@@ -1,5 +1,5 @@
 -- Every operation on words gives a word.
-use Prim.Native.Nat.{ℕ, ◌+◌, ◌-◌, ◌*◌, ◌^◌, ◌<◌, ◌≤◌}
+use Prim.Native.Nat.{ℕ, ◌+◌, ◌*◌, ◌^◌, ◌<◌, ◌≤◌}
 use native.Mathlib.Nat.{mod-lt, lt_of_le_of_lt}
 use native.Mathlib.Omega.{arith}
 use lib.Bits as Bits

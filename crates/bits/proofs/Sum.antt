@@ -1,7 +1,7 @@
 -- Sums of words: without common bits XOR is the sum; the full adder's identity; the carries of a sum.
 -- Rests on Xor, Shift and lib.Bits's xor_add_and.
 use mathlib.Core.Path.{◌≡◌, refl}
-use Prim.Native.Nat.{ℕ, ◌+◌, ◌-◌, ◌*◌, ◌/◌, ◌^◌, ◌<◌, min}
+use Prim.Native.Nat.{ℕ, ◌+◌, ◌*◌, ◌/◌, ◌^◌, ◌<◌, min}
 use native.Mathlib.Omega.{arith}
 use lib.Arith.{bin_ind}
 use lib.Bits as Bits

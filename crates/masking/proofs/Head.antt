@@ -7,18 +7,17 @@ use Prim.Native.Nat.{ℕ, ◌+◌, ◌-◌, ◌≤◌}
 use native.Mathlib.Omega.{arith}
 use lib.Dec.{T, ltb, eqb}
 use lib.ListN.{length, drop}
-use borrow.Author.Tests.{le-ltb, le-leb, eq-eqb}
+use borrow.Author.Tests.{le-ltb}
 use Rattle.word.specs.declared.step.Step.{Step}
 use Rattle.word.specs.declared.step.Decoded.{Decoded}
-use Rattle.word.specs.Encoding.{program_step, is_good}
+use Rattle.word.specs.Encoding.{program_step}
 use Rattle.word.specs.Head.{head_word, is_head}
 use Rattle.word.specs.Layout.{is_share_count, headed_max}
 use Rattle.word.proofs.Head.{head_kind, head_count, head_rest, head_bad, head_is, head_only, kind_10_bad}
-use Rattle.checks.specs.declared.answer.Answer.{Answer}
 use Rattle.checks.specs.Answers.{first_bad, done, refused, bad_at, given, kept_unless}
 use Rattle.checks_run.specs.RunCheck.{has_head, first_bad_behind, run_checked}
 use Rattle.masking.specs.Machine.{with_step, steps_of, exec, exec_steps, rands, rands_of}
-use Rattle.masking.specs.Runs.{standing, due, step_answer, step_cells}
+use Rattle.masking.specs.Runs.{standing, due, step_answer}
 use Rattle.masking.specs.Head.{HeadHolds, HeadsHold}
 use Rattle.masking.proofs.OneRun.{rest_inside}
 

@@ -1,11 +1,9 @@
 -- `add_head::answer_for` meets its contract.
 use mathlib.Core.Path.{sym, ap, ◌∙◌}
-use mathlib.Core.Bool.{not}
-use Prim.Native.Nat.{ℕ, ◌+◌}
+use Prim.Native.Nat.{◌+◌}
 use native.Mathlib.Omega.{arith}
 use lib.ListN.{length}
 use borrow.Author.Tests.{lt-ltb, le-ltb}
-use borrow.Author.Rules.{rules}
 use Rattle.word.specs.Encoding.{program_step}
 use Rattle.word.specs.Layout.{program_max}
 use Rattle.checks.specs.Answers.{done, program_checked}

@@ -1,12 +1,11 @@
 -- `add_head::put_before` meets its contract: the loop keeps that the words passed stand behind the head (Written).
 use mathlib.Core.Path.{◌≡◌, refl, subst, ◌∙◌}
 use mathlib.Core.List.{◌∷◌, ◌++◌}
-use Prim.Native.Nat.{ℕ, ◌+◌, ◌-◌, ◌≤◌}
+use Prim.Native.Nat.{ℕ, ◌+◌}
 use native.Mathlib.Nat.{le_antisymm}
 use native.Mathlib.Omega.{arith}
 use lib.ListN.{length, drop, set, length-set}
-use borrow.Author.Rules.{rules}
-use Rattle.add_head.proofs.Written.{Put, none_put, one_put, all_put}
+use Rattle.add_head.proofs.Written.{none_put, one_put, all_put}
 use Rattle.add_head.proofs.put_before.Goals as goal
 
 pub loop-i-init : goal.loop-i-init

@@ -1,10 +1,9 @@
 -- `add_turn::merged` meets its contract. Rests on InTurn for what is left after a share.
-use mathlib.Core.Path.{◌≡◌, sym, ◌∙◌}
-use Prim.Native.Nat.{◌+◌, ◌*◌, ◌≤◌}
+use mathlib.Core.Path.{sym, ◌∙◌}
 use native.Mathlib.Omega.{arith}
-use lib.ListN.{length, length-set}
+use lib.ListN.{length-set}
 use Rattle.bits.specs.Ops.{xor_w, shl_w}
-use Rattle.add_turn.proofs.InTurn.{Rest, begin, turn, end}
+use Rattle.add_turn.proofs.InTurn.{begin, turn, end}
 use Rattle.add_turn.proofs.merged.Goals as goal
 
 pub overflow_mul-q : goal.overflow_mul-q

@@ -1,5 +1,5 @@
 -- `binary64_plain::product` meets its contract: bit 63 of the exclusive-or is the exclusive-or of the signs, and bits 62..0 do not reach it.
-use Rattle.std.proofs.Common.{ℕ, ◌*◌, ◌^◌, ap, ◌∙◌, ap₂, arith, rules}
+use Rattle.std.proofs.Common.{ℕ, ◌*◌, ◌^◌, ap, ◌∙◌, ap₂, arith}
 use lib.Bits.{bit_or, bit_xor, or_shifted, xor_shr}
 use Rattle.bits.specs.Ops.{xor_w}
 use Rattle.binary64.specs.Number.{sign, magnitude}

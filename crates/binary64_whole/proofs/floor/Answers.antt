@@ -1,5 +1,4 @@
 -- `binary64_whole::floor` meets its contract (`floor_selected`).
-use Rattle.std.proofs.Common.{rules}
 use Rattle.binary64_whole.proofs.Selected.{floor_selected}
 use Rattle.binary64_whole.proofs.floor.Goals as goal
 

@@ -1,5 +1,4 @@
 -- `binary64_whole::nearest` meets its contract (`nearest_selected`).
-use Rattle.std.proofs.Common.{rules}
 use Rattle.binary64_whole.proofs.Selected.{nearest_selected}
 use Rattle.binary64_whole.proofs.nearest.Goals as goal
 

@@ -1,5 +1,5 @@
 -- `binary64_whole::truncate` meets its contract (`truncate_selected`).
-use Rattle.std.proofs.Common.{ℕ, cond, ltb, ◌∙◌, ap₂, rules}
+use Rattle.std.proofs.Common.{ℕ, cond, ltb, ◌∙◌, ap₂}
 use Rattle.binary64.specs.Number.{expo}
 use Rattle.binary64_whole.proofs.Selected.{truncate_selected}
 use Rattle.binary64_whole.proofs.truncate.Goals as goal

@@ -2,7 +2,6 @@
 use mathlib.Core.Bool.{not}
 use mathlib.Core.Path.{sym, ap, ◌∙◌}
 use native.Mathlib.Omega.{arith}
-use borrow.Author.Rules.{rules}
 use Rattle.word.proofs.Small.{in_range}
 use Rattle.checks_run.proofs.RunChecked.{run_count, run_long, run_no_head, run_bad, run_taken, empty_no_head, other_no_head, first_head, behind, behind_most}
 use Rattle.checks_run.proofs.check_run.Goals as goal

@@ -4,7 +4,6 @@ use mathlib.Core.Path.{refl, ap}
 use mathlib.Core.List.{[], ◌∷◌}
 use Prim.Native.Nat.{ℕ}
 use lib.ListN.{get_or}
-use borrow.Author.Rules.{rules}
 use Rattle.compiled.proofs.Reorder.{in_order}
 use Rattle.compiled.proofs.Rest.{past_from}
 use Rattle.compiled_sum_from_27.specs.inner.Runs.{last_run, runs}

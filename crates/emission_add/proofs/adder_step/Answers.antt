@@ -3,34 +3,33 @@ use mathlib.Core.Path.{refl}
 use Prim.Native.Nat.{ℕ, ◌-◌, ◌/◌, ◌<◌}
 use native.Mathlib.Omega.{arith}
 use borrow.Author.Tests.{ne_eqb}
-use borrow.Author.Rules.{rules}
 use Rattle.emission_add.specs.inner.Registers.{adder_step}
 use Rattle.emission_rows.proofs.Each.{fixed_fits, room_each}
 use Rattle.emission_add.proofs.Registers.{for_fits, register_is, register_fits, room_and, as_xor, as_shl, as_and}
 use Rattle.emission_add.proofs.adder_step.Goals as goal
 
-
 round_lt : (k : ℕ) → k < 33 → (k - 3) / 5 < 6
 round_lt k h = omega arith
+
 pub each_share-requires : goal.each_share-requires
 unfolding adder_step
-each_share-requires c = record { each_fits = record { kind = omega arith; fits_d = for_fits 32 (omega arith); fits_a = register_fits _ c.requires.register.1; fits_b = register_fits _ c.requires.register.2; most = c.requires.n_bound }; n_in_bounds = room_each _ c.args.n (rw c.in-0.is at c.requires.room); }
+each_share-requires c = record { each_fits = record { kind = omega arith; fits_d = for_fits 32 (omega arith); fits_a = register_fits _ c.requires.register.1; fits_b = register_fits _ c.requires.register.2; most = c.requires.n_bound }; n_in_bounds = room_each _ c.args.n (rw c.in-0.is at c.requires.room) }
 
 pub and_block-requires : goal.and_block-requires
 unfolding adder_step
-and_block-requires c = record { fits = (for_fits 33 (omega arith), register_fits _ c.requires.register.1, register_fits _ c.requires.register.2); n_bound = c.requires.n_bound; room = room_and 33 c.args.a.first c.args.b.first c.args.n refl (register_is _ c.requires.register.1) (register_is _ c.requires.register.2) (rw c.in-1.is at c.requires.room); }
+and_block-requires c = record { fits = (for_fits 33 (omega arith), register_fits _ c.requires.register.1, register_fits _ c.requires.register.2); n_bound = c.requires.n_bound; room = room_and 33 c.args.a.first c.args.b.first c.args.n refl (register_is _ c.requires.register.1) (register_is _ c.requires.register.2) (rw c.in-1.is at c.requires.room) }
 
 pub each_share-requires-in-2 : goal.each_share-requires-in-2
 unfolding adder_step
-each_share-requires-in-2 c = record { each_fits = record { kind = omega arith; fits_d = for_fits 34 (omega arith); fits_a = for_fits 32 (omega arith); fits_b = fixed_fits 0 (omega arith); most = c.requires.n_bound }; n_in_bounds = room_each _ c.args.n (rw c.in-2.is at c.requires.room); }
+each_share-requires-in-2 c = record { each_fits = record { kind = omega arith; fits_d = for_fits 34 (omega arith); fits_a = for_fits 32 (omega arith); fits_b = fixed_fits 0 (omega arith); most = c.requires.n_bound }; n_in_bounds = room_each _ c.args.n (rw c.in-2.is at c.requires.room) }
 
 pub each_share-requires-in-31 : goal.each_share-requires-in-31
 unfolding adder_step
-each_share-requires-in-31 c = record { each_fits = record { kind = omega arith; fits_d = for_fits 35 (omega arith); fits_a = for_fits 33 (omega arith); fits_b = fixed_fits 1 (omega arith); most = c.requires.n_bound }; n_in_bounds = room_each _ c.args.n (rw c.in-31.is at c.requires.room); }
+each_share-requires-in-31 c = record { each_fits = record { kind = omega arith; fits_d = for_fits 35 (omega arith); fits_a = for_fits 33 (omega arith); fits_b = fixed_fits 1 (omega arith); most = c.requires.n_bound }; n_in_bounds = room_each _ c.args.n (rw c.in-31.is at c.requires.room) }
 
 pub each_share-requires-in-32 : goal.each_share-requires-in-32
 unfolding adder_step
-each_share-requires-in-32 c = record { each_fits = record { kind = omega arith; fits_d = register_fits _ c.requires.register.0; fits_a = for_fits 32 (omega arith); fits_b = for_fits 35 (omega arith); most = c.requires.n_bound }; n_in_bounds = room_each _ c.args.n (rw c.in-32.is at c.requires.room); }
+each_share-requires-in-32 c = record { each_fits = record { kind = omega arith; fits_d = register_fits _ c.requires.register.0; fits_a = for_fits 32 (omega arith); fits_b = for_fits 35 (omega arith); most = c.requires.n_bound }; n_in_bounds = room_each _ c.args.n (rw c.in-32.is at c.requires.room) }
 
 pub overflow_sub-k : goal.overflow_sub-k
 overflow_sub-k c = omega (arith, c.in_default.in_default-own.rest.0.0.0.0.1, c.in_default.in_default-own.rest.0.0.0.1, c.in_default.in_default-own.rest.0.0.1)
@@ -40,7 +39,7 @@ overflow_sub-k-in_default c = omega (arith, c.in_default.in_default-own.rest.0.0
 
 pub round_step-requires : goal.round_step-requires
 unfolding adder_step
-round_step-requires c = record { r_bound = round_lt c.args.k c.requires.k_bound; n_bound = c.requires.n_bound; room = rw (ne_eqb _ _ c.in_default.in_default-own.rest.0.0.0.0.1, ne_eqb _ _ c.in_default.in_default-own.rest.0.0.0.1, ne_eqb _ _ c.in_default.in_default-own.rest.0.0.1, ne_eqb _ _ c.in_default.in_default-own.rest.0.1, ne_eqb _ _ c.in_default.in_default-own.rest.1) at c.requires.room; }
+round_step-requires c = record { r_bound = round_lt c.args.k c.requires.k_bound; n_bound = c.requires.n_bound; room = rw (ne_eqb _ _ c.in_default.in_default-own.rest.0.0.0.0.1, ne_eqb _ _ c.in_default.in_default-own.rest.0.0.0.1, ne_eqb _ _ c.in_default.in_default-own.rest.0.0.1, ne_eqb _ _ c.in_default.in_default-own.rest.0.1, ne_eqb _ _ c.in_default.in_default-own.rest.1) at c.requires.room }
 
 pub returns-in-0 : goal.returns-in-0
 unfolding adder_step

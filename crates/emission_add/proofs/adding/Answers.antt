@@ -1,11 +1,10 @@
 -- `emission_add::adding` meets its contract: ADD's steps are written one by one.
-use mathlib.Core.Path.{◌≡◌, refl, ap}
-use Prim.Native.Nat.{◌-◌, ◌≤◌}
+use mathlib.Core.Path.{refl, ap}
 use native.Mathlib.Omega.{arith}
-use lib.ListN.{drop, drop_of_length-le}
+use lib.ListN.{drop_of_length-le}
 use Rattle.masking.specs.Translation.{scratch, block, blocks, adding}
 use Rattle.emission_add.specs.inner.Registers.{adder_step}
-use Rattle.emission_rows.proofs.Parts.{Left, start, renamed, part, room, whole}
+use Rattle.emission_rows.proofs.Parts.{start, renamed, part, room, whole}
 use Rattle.emission_add.proofs.Numbered.{adding_length, adder_next}
 use Rattle.emission_add.proofs.adding.Goals as goal
 
@@ -14,7 +13,7 @@ loop-k-init c = (omega arith, start _ _ _, refl)
 
 pub adder_step-at-requires : goal.adder_step-at-requires
 adder_step-at-requires c =
-    let l = renamed _ _ _ (adder_next c.args.d.first c.args.a.first c.args.b.first c.args.n c.loop-k.k (omega arith)) c.loop-k.invariant.1 in record { register = c.requires.register; k_bound = omega arith; n_bound = c.requires.n_bound; room = room (block scratch c.args.n (adder_step c.args.d.first c.args.a.first c.args.b.first c.loop-k.k)) _ l c.requires.room; }
+    let l = renamed _ _ _ (adder_next c.args.d.first c.args.a.first c.args.b.first c.args.n c.loop-k.k (omega arith)) c.loop-k.invariant.1 in record { register = c.requires.register; k_bound = omega arith; n_bound = c.requires.n_bound; room = room (block scratch c.args.n (adder_step c.args.d.first c.args.a.first c.args.b.first c.loop-k.k)) _ l c.requires.room }
 
 pub overflow_step-k : goal.overflow_step-k
 overflow_step-k c = omega arith

@@ -1,18 +1,13 @@
 -- The invariants and measures of the loops of `adding`.
-use mathlib.Core.Path.{◌≡◌, refl, ap}
+use mathlib.Core.Path.{◌≡◌}
 use Prim.Native.Nat.{◌-◌, ◌≤◌}
-use native.Mathlib.Omega.{arith}
-use lib.ListN.{drop, drop_of_length-le}
-use Rattle.masking.specs.Translation.{scratch, block, blocks, adding}
-use Rattle.emission_add.specs.inner.Registers.{adder_step}
-use Rattle.emission_rows.proofs.Parts.{Left, start, renamed, part, room, whole}
-use Rattle.emission_add.proofs.Numbered.{adding_length, adder_next}
+use lib.ListN.{drop}
+use Rattle.masking.specs.Translation.{scratch, blocks, adding}
+use Rattle.emission_rows.proofs.Parts.{Left}
 use Rattle.emission_add.proofs.adding.Given as goal
-
 
 abbrev pub invariant-loop-k : goal.invariant-loop-k
 invariant-loop-k l = (l.k ≤ 33) × Left l.initial.out l.initial.at (blocks scratch l.n (adding l.d.first l.a.first l.b.first)) l.out l.at (blocks scratch l.n (drop l.k (adding l.d.first l.a.first l.b.first))) × (l.initial.at ≡ l.at-2)
-
 
 abbrev pub decreases-loop-k : goal.decreases-loop-k
 decreases-loop-k l = 33 - l.k

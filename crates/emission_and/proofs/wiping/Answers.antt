@@ -2,7 +2,6 @@
 use mathlib.Core.Path.{refl}
 use mathlib.Core.List.{[], ◌∷◌}
 use native.Mathlib.Omega.{arith}
-use borrow.Author.Rules.{rules}
 use Rattle.word.specs.declared.step.Step.TheVariants.{Const}
 use Rattle.word.specs.Encoding.{put}
 use Rattle.emission_rows.proofs.Parts.{start, renamed, part, room, room_last, last, as_step}
@@ -11,11 +10,11 @@ use Rattle.emission_and.proofs.Laid.{wiping_parts, wipe, wiped}
 use Rattle.emission_and.proofs.wiping.Goals as goal
 
 pub each_share-at-requires : goal.each_share-at-requires
-each_share-at-requires c = record { each_fits = record { kind = omega arith; fits_d = row_fits 256 (omega arith); fits_a = fixed_fits 0 (omega arith); fits_b = fixed_fits 0 (omega arith); most = c.requires.n_bound }; n_in_bounds = room_each (wipe 256) c.args.n (room _ _ (renamed _ _ _ (wiping_parts c.args.n) (start _ _ _)) c.requires.room); }
+each_share-at-requires c = record { each_fits = record { kind = omega arith; fits_d = row_fits 256 (omega arith); fits_a = fixed_fits 0 (omega arith); fits_b = fixed_fits 0 (omega arith); most = c.requires.n_bound }; n_in_bounds = room_each (wipe 256) c.args.n (room _ _ (renamed _ _ _ (wiping_parts c.args.n) (start _ _ _)) c.requires.room) }
 
 pub each_share-at-requires-2 : goal.each_share-at-requires-2
 each_share-at-requires-2 c =
-    let l₁ = part _ _ (renamed _ _ _ (wiping_parts c.args.n) (start _ _ _)) (wiped 256 c.args.n c.each_share-at.ensures) in record { each_fits = record { kind = omega arith; fits_d = row_fits 264 (omega arith); fits_a = fixed_fits 0 (omega arith); fits_b = fixed_fits 0 (omega arith); most = c.requires.n_bound }; n_in_bounds = room_each (wipe 264) c.args.n (room _ _ l₁ c.requires.room); }
+    let l₁ = part _ _ (renamed _ _ _ (wiping_parts c.args.n) (start _ _ _)) (wiped 256 c.args.n c.each_share-at.ensures) in record { each_fits = record { kind = omega arith; fits_d = row_fits 264 (omega arith); fits_a = fixed_fits 0 (omega arith); fits_b = fixed_fits 0 (omega arith); most = c.requires.n_bound }; n_in_bounds = room_each (wipe 264) c.args.n (room _ _ l₁ c.requires.room) }
 
 pub put_word-at-requires : goal.put_word-at-requires
 put_word-at-requires c =

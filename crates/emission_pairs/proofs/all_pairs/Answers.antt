@@ -3,9 +3,9 @@ use mathlib.Core.List.{List}
 use mathlib.Core.Path.{ap, ◌∙◌}
 use Prim.Native.Nat.{ℕ, ◌+◌, ◌-◌, ◌≤◌, ◌<◌}
 use native.Mathlib.Omega.{arith}
-use Rattle.masking.specs.Translation.{up_from, shares, pairs, pairs_of}
+use Rattle.masking.specs.Translation.{up_from, pairs, pairs_of}
 use Rattle.emission_pairs.specs.inner.Pairs.{pair_steps}
-use Rattle.emission_rows.proofs.Parts.{Left, start, renamed, part, room, whole}
+use Rattle.emission_rows.proofs.Parts.{start, renamed, part, room, whole}
 use Rattle.masking.proofs.emitted.Rising.{rising, risen, from_first}
 use Rattle.emission_pairs.proofs.ByPair.{pair_append, pair_none}
 use Rattle.emission_pairs.proofs.all_pairs.Goals as goal
@@ -23,7 +23,7 @@ pairs_of-at-requires c =
     let row = pair_steps p (pairs_of i (up_from (i + 1) (n - (i + 1)))) in
     let ts = pair_steps p (pairs (up_from (i + 1) (n - (i + 1)))) in
     let h : i < n = omega arith in
-    let l = renamed _ _ _ (ap (λ (is : List ℕ). pair_steps p (pairs is)) (rising i n (omega arith)) ∙ pair_append p _ _) c.loop-i.invariant.1 in record { pair_fits = c.requires.pair_fits; i_lt_n = h; n_bound = c.requires.n_bound; room = room row ts l c.requires.room; }
+    let l = renamed _ _ _ (ap (λ (is : List ℕ). pair_steps p (pairs is)) (rising i n (omega arith)) ∙ pair_append p _ _) c.loop-i.invariant.1 in record { pair_fits = c.requires.pair_fits; i_lt_n = h; n_bound = c.requires.n_bound; room = room row ts l c.requires.room }
 
 pub overflow_step-i : goal.overflow_step-i
 overflow_step-i c = omega arith

@@ -7,10 +7,10 @@ use Rattle.emission_rows.specs.inner.Written.{cells_on}
 use Rattle.emission_rows.proofs.Rows.{on_lt}
 use Rattle.emission_pairs.proofs.and_u.Goals as goal
 
-
 word : (x j : ℕ) → x < 512 → j < 8 → 876871936 + x * 512 + j ≡ put 3 273 x (256 + j)
 unfolding put
 word x j lx lj = omega arith
+
 pub overflow_mul-cell : goal.overflow_mul-cell
 overflow_mul-cell c = omega (arith, on_lt c.args.a c.requires.fits c.args.i c.requires.i_bound)
 

@@ -1,5 +1,4 @@
 -- `emission_pairs::one_pair` meets its contract.
-use borrow.Author.Rules.{rules}
 use Rattle.emission_pairs.proofs.one_pair.Goals as goal
 
 pub returns-in-Refresh : goal.returns-in-Refresh

@@ -1,11 +1,11 @@
 -- `emission_pairs::pairs_of` meets its contract.
 use mathlib.Core.List.{List, [], ◌∷◌}
 use mathlib.Core.Path.{ap, ◌∙◌}
-use Prim.Native.Nat.{ℕ, ◌+◌, ◌-◌, ◌≤◌}
+use Prim.Native.Nat.{ℕ, ◌+◌, ◌-◌}
 use native.Mathlib.Omega.{arith}
 use Rattle.masking.specs.Translation.{up_from, pairs_of}
 use Rattle.emission_pairs.specs.inner.Pairs.{pair_steps}
-use Rattle.emission_rows.proofs.Parts.{Left, start, renamed, part, room, whole}
+use Rattle.emission_rows.proofs.Parts.{start, renamed, part, room, whole}
 use Rattle.masking.proofs.emitted.Rising.{rising, risen}
 use Rattle.emission_pairs.proofs.ByPair.{pair_first, pair_none}
 use Rattle.emission_pairs.proofs.pairs_of.Goals as goal
@@ -23,7 +23,7 @@ one_pair-at-requires c =
     let p = c.args.p in
     let j = c.loop-j.j in
     let ts = pair_steps p (pairs_of i (up_from (j + 1) (n - (j + 1)))) in
-    let l = renamed _ _ _ (ap (λ (js : List ℕ). pair_steps p (pairs_of i js)) (rising j n (omega arith)) ∙ pair_first p _ _) c.loop-j.invariant.1 in record { pair_fits = c.requires.pair_fits; i_bound = omega arith; j_bound = omega arith; room = room (pair_steps p (record { lo = i; hi = j } ∷ [])) ts l c.requires.room; }
+    let l = renamed _ _ _ (ap (λ (js : List ℕ). pair_steps p (pairs_of i js)) (rising j n (omega arith)) ∙ pair_first p _ _) c.loop-j.invariant.1 in record { pair_fits = c.requires.pair_fits; i_bound = omega arith; j_bound = omega arith; room = room (pair_steps p (record { lo = i; hi = j } ∷ [])) ts l c.requires.room }
 
 pub overflow_step-j-in-loop-j : goal.overflow_step-j-in-loop-j
 overflow_step-j-in-loop-j c = omega arith

@@ -1,6 +1,5 @@
 -- `emission_pairs::put_product` meets its contract.
 use mathlib.Core.Path.{refl}
-use borrow.Author.Rules.{rules}
 use Rattle.word.specs.declared.step.Step.TheVariants.{And, Xor}
 use Rattle.word.specs.Encoding.{put}
 use Rattle.emission_rows.proofs.Parts.{start, part, whole, as_step}

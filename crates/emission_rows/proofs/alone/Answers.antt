@@ -1,5 +1,4 @@
 -- `emission_rows::alone` meets its contract.
-use borrow.Author.Rules.{rules}
 use Rattle.emission_rows.proofs.Parts.{words_then}
 use Rattle.emission_rows.proofs.alone.Goals as goal
 

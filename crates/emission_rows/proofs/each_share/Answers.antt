@@ -11,7 +11,7 @@ put-over-requires c = search rules
 
 pub row-requires : goal.row-requires
 row-requires c =
-    let g = c.args in record { rises = rw (c.put-first.ensures, c.put-over.ensures) (each_rises g.k g.d g.a g.b c.requires.each_fits); n_in_bounds = c.requires.n_in_bounds; }
+    let g = c.args in record { rises = rw (c.put-first.ensures, c.put-over.ensures) (each_rises g.k g.d g.a g.b c.requires.each_fits); n_in_bounds = c.requires.n_in_bounds }
 
 pub returns : goal.returns
 returns c =

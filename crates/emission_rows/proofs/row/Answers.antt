@@ -1,8 +1,8 @@
 -- `emission_rows::row` meets its contract: two words a turn, and one more where their number is odd.
 use mathlib.Core.Path.{◌≡◌, refl}
-use Prim.Native.Nat.{◌+◌, ◌-◌, ◌*◌, ◌/◌, ◌≤◌, ◌<◌}
+use Prim.Native.Nat.{◌+◌, ◌*◌, ◌/◌, ◌<◌}
 use native.Mathlib.Omega.{arith}
-use Rattle.emission_rows.proofs.Rows.{Along, along, along_next, along_end}
+use Rattle.emission_rows.proofs.Rows.{along, along_next, along_end}
 use Rattle.emission_rows.proofs.row.Goals as goal
 
 pub loop-i-init : goal.loop-i-init

@@ -2,7 +2,6 @@
 use mathlib.Core.Path.{◌∙◌}
 use native.Mathlib.Omega.{arith}
 use lib.ListN.{length}
-use borrow.Author.Rules.{rules}
 use Rattle.masked_call.proofs.Filling.{none_filled, part_filled, part_size, all_zero}
 use Rattle.masked_work.proofs.clear.Goals as goal
 

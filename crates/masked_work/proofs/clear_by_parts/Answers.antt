@@ -1,10 +1,7 @@
 -- `masked_work::clear_by_parts` meets its contract.
-use mathlib.Core.Path.{◌≡◌, refl, ◌∙◌}
-use Prim.Native.Nat.{◌-◌, ◌≤◌}
+use mathlib.Core.Path.{refl, ◌∙◌}
 use native.Mathlib.Omega.{arith}
-use lib.ListN.{length}
-use borrow.Author.Rules.{rules}
-use Rattle.masked_call.proofs.Filling.{Filled, none_filled, part_filled, part_size, all_zero}
+use Rattle.masked_call.proofs.Filling.{none_filled, part_filled, part_size, all_zero}
 use Rattle.masked_work.proofs.clear_by_parts.Goals as goal
 
 pub loop-at-init : goal.loop-at-init

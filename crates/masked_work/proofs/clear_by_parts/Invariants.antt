@@ -1,16 +1,12 @@
 -- The invariants and measures of the loops of `clear_by_parts`.
-use mathlib.Core.Path.{◌≡◌, refl, ◌∙◌}
+use mathlib.Core.Path.{◌≡◌}
 use Prim.Native.Nat.{◌-◌, ◌≤◌}
-use native.Mathlib.Omega.{arith}
 use lib.ListN.{length}
-use borrow.Author.Rules.{rules}
-use Rattle.masked_call.proofs.Filling.{Filled, none_filled, part_filled, part_size, all_zero}
+use Rattle.masked_call.proofs.Filling.{Filled}
 use Rattle.masked_work.proofs.clear_by_parts.Given as goal
-
 
 abbrev pub invariant-loop-at : goal.invariant-loop-at
 invariant-loop-at l = (l.at ≤ length l.initial.cells) × (length l.cells ≡ length l.initial.cells) × Filled (λ k. 0) l.at l.cells
-
 
 abbrev pub decreases-loop-at : goal.decreases-loop-at
 decreases-loop-at l = length l.initial.cells - l.at

@@ -1,5 +1,4 @@
 -- `masked_work::end` meets its contract.
-use borrow.Author.Rules.{rules}
 use Rattle.masked_work.proofs.end.Goals as goal
 
 pub returns : goal.returns

@@ -1,10 +1,9 @@
 -- `masked_work::place` meets its contract.
-use mathlib.Core.Path.{◌≡◌, refl, sym, ap₂, ◌∙◌}
+use mathlib.Core.Path.{refl, sym, ap₂, ◌∙◌}
 use mathlib.Core.List.{List}
-use Prim.Native.Nat.{ℕ, ◌-◌, ◌≤◌}
+use Prim.Native.Nat.{ℕ}
 use native.Mathlib.Omega.{arith}
-use lib.ListN.{length, drop, length-set, drop_of_length-le}
-use borrow.Author.Rules.{rules}
+use lib.ListN.{length-set, drop_of_length-le}
 use Rattle.masked_call.specs.Shares.{placed_in}
 use Rattle.masked_call.proofs.Filling.{both_placed}
 use Rattle.masked_work.proofs.place.Goals as goal

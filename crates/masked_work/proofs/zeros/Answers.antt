@@ -1,10 +1,8 @@
 -- `masked_work::zeros` meets its contract.
-use mathlib.Core.Path.{◌≡◌, refl, ◌∙◌}
-use Prim.Native.Nat.{◌-◌, ◌≤◌}
+use mathlib.Core.Path.{refl, ◌∙◌}
 use native.Mathlib.Omega.{arith}
 use lib.ListN.{length, length-set}
-use borrow.Author.Rules.{rules}
-use Rattle.masked_call.proofs.Filling.{Filled, none_filled, one_filled, all_zero}
+use Rattle.masked_call.proofs.Filling.{none_filled, one_filled, all_zero}
 use Rattle.masked_work.proofs.zeros.Goals as goal
 
 pub loop-i-init : goal.loop-i-init

@@ -1,7 +1,6 @@
 -- `plain::plain_answer` meets its contract.
 use mathlib.Core.Path.{sym, ◌∙◌}
 use borrow.Author.Tests.{eq-eqb, ne_eqb}
-use borrow.Author.Rules.{rules}
 use Rattle.word.specs.Encoding.{plan_step}
 use Rattle.word.specs.Layout.{plan_max}
 use Rattle.checks.specs.Answers.{plan_checked}

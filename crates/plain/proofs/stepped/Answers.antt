@@ -2,7 +2,6 @@
 use mathlib.Core.Path.{ap₂, ◌∙◌}
 use lib.ListN.{set}
 use Rattle.plain.specs.Machine.{stepped}
-use borrow.Author.Rules.{rules}
 use Rattle.plain.proofs.stepped.Goals as goal
 
 pub returns : goal.returns

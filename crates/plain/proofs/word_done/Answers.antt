@@ -1,5 +1,4 @@
 -- `plain::word_done` meets its contract.
-use borrow.Author.Rules.{rules}
 use Rattle.plain.proofs.word_done.Goals as goal
 
 pub returns-in_default : goal.returns-in_default

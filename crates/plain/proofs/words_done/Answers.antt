@@ -1,10 +1,9 @@
 -- `plain::words_done` meets its contract.
-use Prim.Native.Nat.{ℕ, ◌+◌, ◌≤◌, ◌-◌}
-use mathlib.Core.Path.{◌≡◌, refl, sym, ap, ◌∙◌}
+use Prim.Native.Nat.{ℕ, ◌+◌}
+use mathlib.Core.Path.{refl, sym, ap, ◌∙◌}
 use native.Mathlib.Omega.{arith}
 use mathlib.Core.List.{List}
-use lib.ListN.{length, drop, drop_of_length-le}
-use borrow.Author.Rules.{rules}
+use lib.ListN.{drop, drop_of_length-le}
 use Rattle.plain.specs.Machine.{run}
 use Rattle.plain.proofs.Laws.{run_one}
 use Rattle.plain.proofs.words_done.Goals as goal

@@ -1,5 +1,5 @@
 -- `plain_table::becomes` meets its contract.
-use Rattle.std.proofs.Common.{ℕ, ◌+◌, ◌-◌, ◌*◌, ◌%◌, ◌^◌, ap, ◌∙◌, ap₂, rules}
+use Rattle.std.proofs.Common.{ℕ, ◌+◌, ◌-◌, ◌*◌, ◌%◌, ◌^◌, ap, ◌∙◌, ap₂}
 use lib.Bits.{bit_xor, bit_and}
 use Rattle.bits.specs.Ops.{xor_w, and_w, not_w, spread_w, add_w}
 use Rattle.plain_table.proofs.becomes.Goals as goal

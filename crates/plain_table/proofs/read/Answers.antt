@@ -1,5 +1,5 @@
 -- `plain_table::read` meets its contract.
-use Rattle.std.proofs.Common.{sym, rules}
+use Rattle.std.proofs.Common.{sym}
 use lib.ListN.{get_or-eq_default}
 use Rattle.plain_table.proofs.read.Goals as goal
 

@@ -1,5 +1,5 @@
 -- `plain_table::shl` meets its contract.
-use Rattle.std.proofs.Common.{◌≡◌, ◌+◌, ◌-◌, sym, refl, arith, rules}
+use Rattle.std.proofs.Common.{◌≡◌, ◌+◌, ◌-◌, sym, refl, arith}
 use Rattle.bits.specs.Ops.{shl_w}
 use Rattle.bits.proofs.Shift.{shl_width}
 use Rattle.plain_table.proofs.shl.Goals as goal

@@ -1,5 +1,5 @@
 -- `plain_table::shr` meets its contract.
-use Rattle.std.proofs.Common.{sym, refl, arith, rules}
+use Rattle.std.proofs.Common.{sym, refl, arith}
 use Rattle.bits.specs.Ops.{shr_w}
 use Rattle.bits.proofs.Shift.{shr_width}
 use Rattle.plain_table.proofs.shr.Goals as goal

@@ -1,5 +1,5 @@
 -- `plain_table::write` meets its contract.
-use Rattle.std.proofs.Common.{sym, rules}
+use Rattle.std.proofs.Common.{sym}
 use lib.Seq.{set_out}
 use Rattle.plain_table.proofs.write.Goals as goal
 

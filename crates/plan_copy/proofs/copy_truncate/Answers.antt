@@ -1,7 +1,6 @@
 -- `plan_copy::copy_truncate` meets its contract: the table is the plan (its own contract), copied.
-use borrow.Author.Rules.{rules}
 use Rattle.plans.proofs.BuiltIns.{built_ins}
 use Rattle.plan_copy.proofs.copy_truncate.Goals as goal
 
 pub returns : goal.returns
-returns c = record { value = rw c.words-plan.ensures at c.copy.ensures; holds = built_ins; }
+returns c = record { value = rw c.words-plan.ensures at c.copy.ensures; holds = built_ins }

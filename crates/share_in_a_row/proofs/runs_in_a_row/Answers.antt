@@ -1,9 +1,8 @@
 -- `share_in_a_row::runs_in_a_row` meets its contract.
 use mathlib.Core.Path.{◌≡◌, refl, sym, ap, ◌∙◌}
-use Prim.Native.Nat.{◌+◌, ◌-◌, ◌≤◌, max, min}
+use Prim.Native.Nat.{◌+◌}
 use native.Mathlib.Omega.{arith}
-use lib.ListN.{length, get_or, drop}
-use borrow.Author.Rules.{rules}
+use lib.ListN.{get_or, drop}
 use Rattle.checks.specs.declared.answer.Answer.{Answer}
 use Rattle.masking.specs.Runs.{State, standing, told, runs_of, in_arow}
 use Rattle.share_in_a_row.proofs.Bounds.{run_within, row_turn, no_runs}
@@ -48,4 +47,4 @@ shape_of-cells c = c.loop-i.invariant.2
 pub returns : goal.returns
 returns c =
     let e : in_arow c.args.program.now c.args.tape.now (standing c.args.cells.now c.args.place c.args.tape_place) (runs_of c.args.counts.now c.args.budgets.now) ≡ standing c.loop-i.cells c.loop-i.p c.loop-i.t =
-    c.loop-i.invariant.5 ∙ ap (in_arow c.args.program.now c.args.tape.now (standing c.loop-i.cells c.loop-i.p c.loop-i.t)) (no_runs c.args.counts.now c.args.budgets.now c.loop-i.i (omega arith)) in record { cells = sym (ap (λ (st : State). st.cells) e); program = sym (ap (λ (st : State). st.place) e); tape = sym (ap (λ (st : State). st.tape_place) e); holds = demand3; }
+    c.loop-i.invariant.5 ∙ ap (in_arow c.args.program.now c.args.tape.now (standing c.loop-i.cells c.loop-i.p c.loop-i.t)) (no_runs c.args.counts.now c.args.budgets.now c.loop-i.i (omega arith)) in record { cells = sym (ap (λ (st : State). st.cells) e); program = sym (ap (λ (st : State). st.place) e); tape = sym (ap (λ (st : State). st.tape_place) e); holds = demand3 }

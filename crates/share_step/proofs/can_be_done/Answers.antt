@@ -2,7 +2,6 @@
 use Prim.Native.Nat.{ℕ}
 use mathlib.Core.Path.{◌≡◌, sym, ap, ap₂, ◌∙◌}
 use mathlib.Core.Bool.{◌||◌}
-use borrow.Author.Rules.{rules}
 use Rattle.word.specs.Encoding.{program_step, is_good}
 use Rattle.word.specs.Head.{is_head}
 use Rattle.share_step.proofs.can_be_done.Goals as goal

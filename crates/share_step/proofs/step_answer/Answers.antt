@@ -1,7 +1,6 @@
 -- `share_step::step_answer` meets its contract.
 use mathlib.Core.Path.{sym, ap, ◌∙◌}
 use mathlib.Core.Bool.{not}
-use borrow.Author.Rules.{rules}
 use Rattle.share_machine.proofs.ByKind.{one_good}
 use Rattle.share_step.proofs.step_answer.Goals as goal
 

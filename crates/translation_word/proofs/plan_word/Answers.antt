@@ -1,8 +1,7 @@
 -- `translation_word::plan_word` meets its contract.
 use mathlib.Core.Path.{◌≡◌, refl, sym, ap, ◌∙◌}
-use Prim.Native.Nat.{◌%◌, ◌^◌, ◌<◌}
+use Prim.Native.Nat.{◌^◌, ◌<◌}
 use native.Mathlib.Omega.{arith}
-use borrow.Author.Rules.{rules}
 use Rattle.word.specs.declared.step.Decoded.TheVariants.{Good}
 use Rattle.word.specs.Encoding.{kind_of, kind_number, plan_step}
 use Rattle.translation_word.specs.inner.Good.{PlanWord}
@@ -35,7 +34,7 @@ alone-requires c =
     let small : c.args.w < 2 ^ 32 = omega (arith, c.well_formed) in
     let p = good in
     let k : kind_of c.args.w ≡ 1 = kind_is c.args.w p ∙ ap kind_number c.in-Const.is in
-    let e = linear_length c.args.n c.args.w (small) p c.requires.le_n.0 c.requires.le_n.1 (λ x. omega arith) (λ x. omega arith) in record { le_n = c.requires.le_n.0; rises = record { kind = omega arith; small = omega arith; most = c.requires.le_n.1 }; n_in_bounds = omega (arith, e, c.requires.w_in_bounds); }
+    let e = linear_length c.args.n c.args.w (small) p c.requires.le_n.0 c.requires.le_n.1 (λ x. omega arith) (λ x. omega arith) in record { le_n = c.requires.le_n.0; rises = record { kind = omega arith; small = omega arith; most = c.requires.le_n.1 }; n_in_bounds = omega (arith, e, c.requires.w_in_bounds) }
 
 pub row-requires : goal.row-requires
 row-requires c =
@@ -43,14 +42,14 @@ row-requires c =
     let small : c.args.w < 2 ^ 32 = omega (arith, c.well_formed) in
     let p = good in
     let k : kind_of c.args.w ≡ 2 = kind_is c.args.w p ∙ ap kind_number c.in-Xor.is in
-    let e = linear_length c.args.n c.args.w (small) p c.requires.le_n.0 c.requires.le_n.1 (λ x. omega arith) (λ x. omega arith) in record { rises = record { kind = omega arith; small = omega arith; most = c.requires.le_n.1 }; n_in_bounds = omega (arith, e, c.requires.w_in_bounds); }
+    let e = linear_length c.args.n c.args.w (small) p c.requires.le_n.0 c.requires.le_n.1 (λ x. omega arith) (λ x. omega arith) in record { rises = record { kind = omega arith; small = omega arith; most = c.requires.le_n.1 }; n_in_bounds = omega (arith, e, c.requires.w_in_bounds) }
 
 pub and_word-requires : goal.and_word-requires
 and_word-requires c =
     let good : PlanWord c.args.w = plan_good _ _ (sym (ap plan_step c.of.ensures) ∙ sym c.plan_step.ensures ∙ c.in-Good.is) in
     let small : c.args.w < 2 ^ 32 = omega (arith, c.well_formed) in
     let p = good in
-    let r = registers_of _ _ c.in-And.is (in_plan_is c.args.w p) in record { d_bound = (r.0, (r.1.0, r.1.1.0)); n_bound = c.requires.le_n.1; b_in_bounds = rw (p.apart ∙ ap Good c.in-And.is) at c.requires.w_in_bounds; }
+    let r = registers_of _ _ c.in-And.is (in_plan_is c.args.w p) in record { d_bound = (r.0, (r.1.0, r.1.1.0)); n_bound = c.requires.le_n.1; b_in_bounds = rw (p.apart ∙ ap Good c.in-And.is) at c.requires.w_in_bounds }
 
 pub overflow_add-w-in-Not : goal.overflow_add-w-in-Not
 overflow_add-w-in-Not c =
@@ -74,7 +73,7 @@ alone-requires-in-Not c =
     let small : c.args.w < 2 ^ 32 = omega (arith, c.well_formed) in
     let p = good in
     let k : kind_of c.args.w ≡ 4 = kind_is c.args.w p ∙ ap kind_number c.in-Not.is in
-    let e = linear_length c.args.n c.args.w (small) p c.requires.le_n.0 c.requires.le_n.1 (λ x. omega arith) (λ x. omega arith) in record { le_n = c.requires.le_n.0; rises = record { kind = omega arith; small = omega arith; most = c.requires.le_n.1 }; n_in_bounds = omega (arith, e, c.requires.w_in_bounds); }
+    let e = linear_length c.args.n c.args.w (small) p c.requires.le_n.0 c.requires.le_n.1 (λ x. omega arith) (λ x. omega arith) in record { le_n = c.requires.le_n.0; rises = record { kind = omega arith; small = omega arith; most = c.requires.le_n.1 }; n_in_bounds = omega (arith, e, c.requires.w_in_bounds) }
 
 pub row-requires-in-Shl : goal.row-requires-in-Shl
 row-requires-in-Shl c =
@@ -82,7 +81,7 @@ row-requires-in-Shl c =
     let small : c.args.w < 2 ^ 32 = omega (arith, c.well_formed) in
     let p = good in
     let k : kind_of c.args.w ≡ 5 = kind_is c.args.w p ∙ ap kind_number c.in-Shl.is in
-    let e = linear_length c.args.n c.args.w (small) p c.requires.le_n.0 c.requires.le_n.1 (λ x. omega arith) (λ x. omega arith) in record { rises = record { kind = omega arith; small = omega arith; most = c.requires.le_n.1 }; n_in_bounds = omega (arith, e, c.requires.w_in_bounds); }
+    let e = linear_length c.args.n c.args.w (small) p c.requires.le_n.0 c.requires.le_n.1 (λ x. omega arith) (λ x. omega arith) in record { rises = record { kind = omega arith; small = omega arith; most = c.requires.le_n.1 }; n_in_bounds = omega (arith, e, c.requires.w_in_bounds) }
 
 pub row-requires-in-Shr : goal.row-requires-in-Shr
 row-requires-in-Shr c =
@@ -90,7 +89,7 @@ row-requires-in-Shr c =
     let small : c.args.w < 2 ^ 32 = omega (arith, c.well_formed) in
     let p = good in
     let k : kind_of c.args.w ≡ 6 = kind_is c.args.w p ∙ ap kind_number c.in-Shr.is in
-    let e = linear_length c.args.n c.args.w (small) p c.requires.le_n.0 c.requires.le_n.1 (λ x. omega arith) (λ x. omega arith) in record { rises = record { kind = omega arith; small = omega arith; most = c.requires.le_n.1 }; n_in_bounds = omega (arith, e, c.requires.w_in_bounds); }
+    let e = linear_length c.args.n c.args.w (small) p c.requires.le_n.0 c.requires.le_n.1 (λ x. omega arith) (λ x. omega arith) in record { rises = record { kind = omega arith; small = omega arith; most = c.requires.le_n.1 }; n_in_bounds = omega (arith, e, c.requires.w_in_bounds) }
 
 pub row-requires-in-Spread : goal.row-requires-in-Spread
 row-requires-in-Spread c =
@@ -98,14 +97,14 @@ row-requires-in-Spread c =
     let small : c.args.w < 2 ^ 32 = omega (arith, c.well_formed) in
     let p = good in
     let k : kind_of c.args.w ≡ 7 = kind_is c.args.w p ∙ ap kind_number c.in-Spread.is in
-    let e = linear_length c.args.n c.args.w (small) p c.requires.le_n.0 c.requires.le_n.1 (λ x. omega arith) (λ x. omega arith) in record { rises = record { kind = omega arith; small = omega arith; most = c.requires.le_n.1 }; n_in_bounds = omega (arith, e, c.requires.w_in_bounds); }
+    let e = linear_length c.args.n c.args.w (small) p c.requires.le_n.0 c.requires.le_n.1 (λ x. omega arith) (λ x. omega arith) in record { rises = record { kind = omega arith; small = omega arith; most = c.requires.le_n.1 }; n_in_bounds = omega (arith, e, c.requires.w_in_bounds) }
 
 pub add_word-requires : goal.add_word-requires
 add_word-requires c =
     let good : PlanWord c.args.w = plan_good _ _ (sym (ap plan_step c.of.ensures) ∙ sym c.plan_step.ensures ∙ c.in-Good.is) in
     let small : c.args.w < 2 ^ 32 = omega (arith, c.well_formed) in
     let p = good in
-    let r = registers_of _ _ c.in-Add.is (in_plan_is c.args.w p) in record { d_bound = (r.0, (r.1.0, r.1.1.0)); n_bound = c.requires.le_n.1; b_in_bounds = rw (p.apart ∙ ap Good c.in-Add.is) at c.requires.w_in_bounds; }
+    let r = registers_of _ _ c.in-Add.is (in_plan_is c.args.w p) in record { d_bound = (r.0, (r.1.0, r.1.1.0)); n_bound = c.requires.le_n.1; b_in_bounds = rw (p.apart ∙ ap Good c.in-Add.is) at c.requires.w_in_bounds }
 
 pub returns-in-Const : goal.returns-in-Const
 returns-in-Const c =

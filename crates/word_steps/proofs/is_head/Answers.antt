@@ -1,6 +1,5 @@
 -- `word_steps::is_head` meets its contract.
 use mathlib.Core.Path.{sym}
-use borrow.Author.Rules.{rules}
 use Rattle.word.proofs.Head.{few_no_head, many_no_head, head_by_word}
 use Rattle.word_steps.proofs.is_head.Goals as goal
 

@@ -1,7 +1,6 @@
 -- `word_steps::plan_step` meets its contract.
 use mathlib.Core.Path.{sym, ◌∙◌}
 use native.Mathlib.Omega.{arith}
-use borrow.Author.Rules.{rules}
 use Rattle.word.proofs.Together.{no_register, named_dest}
 use Rattle.word_steps.proofs.plan_step.Goals as goal
 

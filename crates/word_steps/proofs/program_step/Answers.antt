@@ -1,5 +1,4 @@
 -- `word_steps::program_step` meets its contract.
-use borrow.Author.Rules.{rules}
 use Rattle.word_steps.proofs.program_step.Goals as goal
 
 pub returns-in_default : goal.returns-in_default

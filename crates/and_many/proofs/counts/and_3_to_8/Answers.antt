@@ -1,7 +1,6 @@
 -- `and_many::counts::and_3_to_8` meets its contract, by the number of shares.
 use mathlib.Core.Path.{◌≡◌}
 use native.Mathlib.Omega.{arith}
-use borrow.Author.Rules.{rules}
 use Rattle.and_many.proofs.InHalves.{asked_for, ran_for}
 use Rattle.and_many.proofs.counts.and_3_to_8.Goals as goal
 

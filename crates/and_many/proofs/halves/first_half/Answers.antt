@@ -1,5 +1,4 @@
 -- `and_many::halves::first_half` meets its contract.
-use borrow.Author.Rules.{rules}
 use Rattle.and_parts.specs.inner.Effects.{at, placed}
 use Rattle.and_many.proofs.Parts.{first_done}
 use Rattle.and_many.proofs.halves.first_half.Goals as goal

@@ -1,18 +1,13 @@
 -- The invariants and measures of the loops of `copies.copy_out`.
-use mathlib.Core.Path.{◌≡◌, refl, sym, ap, ◌∙◌, subst}
-use mathlib.Core.List.{List}
+use mathlib.Core.Path.{◌≡◌}
 use Prim.Native.Nat.{ℕ, ◌+◌, ◌-◌, ◌≤◌}
-use native.Mathlib.Omega.{arith}
-use lib.ListN.{length, get_or, set, length-set}
+use lib.ListN.{length}
 use Rattle.word.specs.declared.step.Step.{Step}
 use Rattle.word.specs.declared.step.Step.TheVariants.{Shl}
-use Rattle.masking.specs.Machine.{exec_step}
 use Rattle.and_parts.specs.declared.once.Place.{Place}
-use Rattle.and_parts.specs.inner.Effects.{Alike, at}
-use Rattle.and_parts.proofs.Turn.{at_first, at_next, at_inside, at_fits}
-use Rattle.and_pairs.proofs.ShareTurns.{Rest, rest_start, rest_turn, rest_end, copy_alike}
+use Rattle.and_parts.specs.inner.Effects.{at}
+use Rattle.and_pairs.proofs.ShareTurns.{Rest}
 use Rattle.and_pairs.proofs.copies.copy_out.Given as goal
-
 
 -- the step of a share
 abbrev pub each : Place → ℕ → Step
@@ -21,7 +16,6 @@ each p i = Shl (at p i) (264 + i) 0
 abbrev pub invariant-loop-i : goal.invariant-loop-i
 invariant-loop-i l =
     (l.i ≤ l.n) × (length l.cells ≡ 512) × (l.q ≡ at (record { base = l.initial.q; stride = l.over }) l.i) × Rest (each (record { base = l.initial.q; stride = l.over })) l.n l.i l.initial.cells l.cells
-
 
 abbrev pub decreases-loop-i : goal.decreases-loop-i
 decreases-loop-i l = l.n - l.i

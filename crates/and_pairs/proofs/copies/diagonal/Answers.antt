@@ -1,17 +1,14 @@
 -- `and_pairs::copies::diagonal` meets its contract.
-use mathlib.Core.Path.{◌≡◌, refl, sym, ap, ◌∙◌, subst}
+use mathlib.Core.Path.{refl, sym, ap, ◌∙◌, subst}
 use mathlib.Core.List.{List}
-use Prim.Native.Nat.{ℕ, ◌+◌, ◌-◌, ◌≤◌}
+use Prim.Native.Nat.{ℕ, ◌+◌}
 use native.Mathlib.Omega.{arith}
-use lib.ListN.{length, get_or, set, length-set}
+use lib.ListN.{get_or, set, length-set}
 use Rattle.bits.specs.Ops.{and_w}
-use Rattle.word.specs.declared.step.Step.{Step}
-use Rattle.word.specs.declared.step.Step.TheVariants.{And}
 use Rattle.masking.specs.Machine.{exec_step}
-use Rattle.and_parts.specs.declared.once.Place.{Place}
 use Rattle.and_parts.specs.inner.Effects.{Alike, at, placed}
 use Rattle.and_parts.proofs.Turn.{at_first, at_next, at_inside, at_fits}
-use Rattle.and_pairs.proofs.ShareTurns.{Rest, rest_start, rest_turn, rest_end, and_alike}
+use Rattle.and_pairs.proofs.ShareTurns.{rest_start, rest_turn, rest_end, and_alike}
 use Rattle.and_pairs.proofs.copies.diagonal.Invariants.{each}
 use Rattle.and_pairs.proofs.copies.diagonal.Goals as goal
 
@@ -53,17 +50,16 @@ loop-i-smaller c = omega arith
 
 pub loop-i-preserved : goal.loop-i-preserved
 unfolding and_w
-loop-i-preserved c =
-    (
-      omega arith,
-      length-set c.loop-i.cells _ _ ∙ c.loop-i.invariant.1,
-      ap (λ (m : ℕ). m + c.args.over) c.loop-i.invariant.2 ∙ at_next (placed c.args.a c.args.over) c.loop-i.i,
-      rest_turn (each (placed c.args.a c.args.over)) c.args.n c.loop-i.i (omega arith) refl c.args.cells.now c.loop-i.cells _
-          (
-          subst (λ (m : ℕ). (tape k : List ℕ) → Alike c.loop-i.cells k → Alike (set c.loop-i.cells (264 + c.loop-i.i) (and_w (get_or c.loop-i.cells m 0) (get_or c.loop-i.cells (256 + c.loop-i.i) 0))) (exec_step (each (placed c.args.a c.args.over) c.loop-i.i) tape k)) (sym c.loop-i.invariant.2)
-          (and_alike c.loop-i.cells (264 + c.loop-i.i) (at (placed c.args.a c.args.over) c.loop-i.i) (λ e. omega arith, λ e. omega arith) (c.requires.2.away c.loop-i.i 272 (omega arith) (omega arith) (omega arith), c.requires.2.away c.loop-i.i 273 (omega arith) (omega arith) (omega arith)) (256 + c.loop-i.i) (λ e. omega arith, λ e. omega arith))
-          ) c.loop-i.invariant.3,
-    )
+loop-i-preserved c = (
+  omega arith,
+  length-set c.loop-i.cells _ _ ∙ c.loop-i.invariant.1,
+  ap (λ (m : ℕ). m + c.args.over) c.loop-i.invariant.2 ∙ at_next (placed c.args.a c.args.over) c.loop-i.i,
+  rest_turn (each (placed c.args.a c.args.over)) c.args.n c.loop-i.i (omega arith) refl c.args.cells.now c.loop-i.cells _
+      (
+      subst (λ (m : ℕ). (tape k : List ℕ) → Alike c.loop-i.cells k → Alike (set c.loop-i.cells (264 + c.loop-i.i) (and_w (get_or c.loop-i.cells m 0) (get_or c.loop-i.cells (256 + c.loop-i.i) 0))) (exec_step (each (placed c.args.a c.args.over) c.loop-i.i) tape k)) (sym c.loop-i.invariant.2)
+      (and_alike c.loop-i.cells (264 + c.loop-i.i) (at (placed c.args.a c.args.over) c.loop-i.i) (λ e. omega arith, λ e. omega arith) (c.requires.2.away c.loop-i.i 272 (omega arith) (omega arith) (omega arith), c.requires.2.away c.loop-i.i 273 (omega arith) (omega arith) (omega arith)) (256 + c.loop-i.i) (λ e. omega arith, λ e. omega arith))
+      ) c.loop-i.invariant.3,
+)
 
 pub shape_of-cells : goal.shape_of-cells
 shape_of-cells c = c.loop-i.invariant.1 ∙ sym c.requires.1

@@ -1,10 +1,8 @@
 -- `and_pairs::fresh::fresh_copy` meets its contract: the shares one after the other.
-use mathlib.Core.Path.{◌≡◌, sym, ap, ◌∙◌}
-use Prim.Native.Nat.{◌-◌, ◌≤◌}
+use mathlib.Core.Path.{sym, ap, ◌∙◌}
 use native.Mathlib.Omega.{arith}
 use lib.ListN.{length, length-set}
-use Rattle.masking.specs.Translation.{shares, up_from}
-use Rattle.and_parts.specs.inner.Effects.{at, freshly, placed}
+use Rattle.and_parts.specs.inner.Effects.{at, placed}
 use Rattle.and_pairs.proofs.Refreshed.{fresh_near, fresh_words, half, fresh_begin, fresh_turn, fresh_end}
 use Rattle.and_pairs.proofs.fresh.fresh_copy.Goals as goal
 

@@ -1,19 +1,15 @@
 -- The invariants and measures of the loops of `fresh.fresh_copy`.
-use mathlib.Core.Path.{◌≡◌, sym, ap, ◌∙◌}
+use mathlib.Core.Path.{◌≡◌}
 use Prim.Native.Nat.{◌-◌, ◌≤◌}
-use native.Mathlib.Omega.{arith}
-use lib.ListN.{length, length-set}
+use lib.ListN.{length}
 use Rattle.masking.specs.Translation.{shares, up_from}
 use Rattle.and_parts.specs.inner.Effects.{at, freshly, placed}
-use Rattle.and_pairs.proofs.Refreshed.{fresh_near, fresh_words, half, fresh_begin, fresh_turn, fresh_end}
 use Rattle.and_pairs.proofs.fresh.fresh_copy.Given as goal
-
 
 abbrev pub invariant-loop-k : goal.invariant-loop-k
 invariant-loop-k l =
     (l.k ≤ l.n) × (length l.cells ≡ 512)
     × (freshly l.tape l.t l.n (at (placed l.b l.over)) (shares l.n) l.initial.cells ≡ freshly l.tape l.t l.n (at (placed l.b l.over)) (up_from l.k (l.n - l.k)) l.cells)
-
 
 abbrev pub decreases-loop-k : goal.decreases-loop-k
 decreases-loop-k l = l.n - l.k

@@ -1,9 +1,9 @@
 -- `and_pairs::rows::cross_row` meets its contract: z_i, in a local, stands in its cell again at the end.
-use mathlib.Core.Path.{◌≡◌, refl, sym, ap, ◌∙◌, subst}
+use mathlib.Core.Path.{refl, sym, ap, ◌∙◌, subst}
 use mathlib.Core.List.{List}
-use Prim.Native.Nat.{ℕ, ◌+◌, ◌-◌, ◌≤◌, ◌<◌}
+use Prim.Native.Nat.{ℕ, ◌+◌, ◌-◌}
 use native.Mathlib.Omega.{arith}
-use lib.ListN.{length, set, length-set}
+use lib.ListN.{length-set}
 use lib.Seq.{set-get_or}
 use Rattle.bits.specs.Ops.{xor_w, and_w}
 use Rattle.masking.specs.Translation.{up_from, pairs_of, products, scratch}
@@ -126,15 +126,14 @@ loop-j-smaller c = omega arith
 
 pub loop-j-preserved : goal.loop-j-preserved
 unfolding xor_w and_w
-loop-j-preserved c =
-    (
-      omega arith,
-      omega arith,
-      simp length-set c.loop-j.invariant.2,
-      omega arith,
-      ap (λ (k : ℕ). k + c.args.over) c.loop-j.invariant.4 ∙ at_next (placed c.args.a c.args.over) c.loop-j.j,
-      cross_turn c.args.i c.loop-j.j (omega arith) (omega arith) c.args.tape.now c.loop-j.t (placed c.args.a c.args.over) c.requires.i_lt_n.3 c.loop-j.cells c.loop-j.invariant.2 c.loop-j.z c.loop-j.q c.loop-j.invariant.4 c.args.n (omega arith) c.loop-j.invariant.5,
-    )
+loop-j-preserved c = (
+  omega arith,
+  omega arith,
+  simp length-set c.loop-j.invariant.2,
+  omega arith,
+  ap (λ (k : ℕ). k + c.args.over) c.loop-j.invariant.4 ∙ at_next (placed c.args.a c.args.over) c.loop-j.j,
+  cross_turn c.args.i c.loop-j.j (omega arith) (omega arith) c.args.tape.now c.loop-j.t (placed c.args.a c.args.over) c.requires.i_lt_n.3 c.loop-j.cells c.loop-j.invariant.2 c.loop-j.z c.loop-j.q c.loop-j.invariant.4 c.args.n (omega arith) c.loop-j.invariant.5,
+)
 
 pub overflow_add-cells-2 : goal.overflow_add-cells-2
 overflow_add-cells-2 c = omega arith

@@ -1,13 +1,10 @@
 -- `and_pairs::rows::crosses` meets its contract: rows one after the other.
-use mathlib.Core.Path.{◌≡◌, sym, ap, ◌∙◌}
-use Prim.Native.Nat.{◌+◌, ◌-◌, ◌≤◌}
+use mathlib.Core.Path.{sym, ap, ◌∙◌}
 use native.Mathlib.Omega.{arith}
-use lib.ListN.{length}
-use Rattle.masking.specs.Translation.{pairs, products, scratch, shares}
 use Rattle.masking.specs.Machine.{rands_of}
 use Rattle.and_parts.specs.inner.Effects.{at, placed}
-use Rattle.and_parts.proofs.Toward.{Toward, begin, renamed, whole, near_size}
-use Rattle.and_pairs.proofs.RowByRow.{rows_from, all_rows, no_rows, row_words, next_row}
+use Rattle.and_parts.proofs.Toward.{begin, renamed, whole, near_size}
+use Rattle.and_pairs.proofs.RowByRow.{all_rows, no_rows, row_words, next_row}
 use Rattle.and_pairs.proofs.rows.crosses.Goals as goal
 
 pub loop-i-init : goal.loop-i-init
@@ -16,7 +13,7 @@ loop-i-init c =
     (omega arith, c.requires.n_bound.1, omega (arith, c.requires.enough, ap rands_of e), renamed e (begin _ _ _ _))
 
 pub cross_row-t-requires : goal.cross_row-t-requires
-cross_row-t-requires c = record { i_lt_n = (omega arith, c.requires.n_bound.0, c.loop-i.invariant.1, c.requires.n_bound.2); enough = omega (arith, row_words (at (placed c.args.a c.args.over)) c.args.n c.loop-i.i (omega arith)); }
+cross_row-t-requires c = record { i_lt_n = (omega arith, c.requires.n_bound.0, c.loop-i.invariant.1, c.requires.n_bound.2); enough = omega (arith, row_words (at (placed c.args.a c.args.over)) c.args.n c.loop-i.i (omega arith)) }
 
 pub overflow_add-i : goal.overflow_add-i
 overflow_add-i c = omega arith

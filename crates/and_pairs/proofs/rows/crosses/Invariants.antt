@@ -1,21 +1,18 @@
 -- The invariants and measures of the loops of `rows.crosses`.
-use mathlib.Core.Path.{◌≡◌, sym, ap, ◌∙◌}
+use mathlib.Core.Path.{◌≡◌}
 use Prim.Native.Nat.{◌+◌, ◌-◌, ◌≤◌}
-use native.Mathlib.Omega.{arith}
 use lib.ListN.{length}
 use Rattle.masking.specs.Translation.{pairs, products, scratch, shares}
 use Rattle.masking.specs.Machine.{rands_of}
 use Rattle.and_parts.specs.inner.Effects.{at, placed}
-use Rattle.and_parts.proofs.Toward.{Toward, begin, renamed, whole, near_size}
-use Rattle.and_pairs.proofs.RowByRow.{rows_from, all_rows, no_rows, row_words, next_row}
+use Rattle.and_parts.proofs.Toward.{Toward}
+use Rattle.and_pairs.proofs.RowByRow.{rows_from}
 use Rattle.and_pairs.proofs.rows.crosses.Given as goal
-
 
 abbrev pub invariant-loop-i : goal.invariant-loop-i
 invariant-loop-i l =
     (l.i ≤ l.n) × (length l.cells ≡ 512) × (l.t + rands_of (rows_from (at (placed l.a l.over)) l.n l.i) ≤ length l.tape)
     × Toward l.tape (products scratch (at (placed l.a l.over)) (pairs (shares l.n))) l.t-2 l.initial.cells (rows_from (at (placed l.a l.over)) l.n l.i) l.t l.cells
-
 
 abbrev pub decreases-loop-i : goal.decreases-loop-i
 decreases-loop-i l = l.n - l.i

@@ -1,10 +1,10 @@
 -- `and_parts::fresh::fresh_share` meets its contract.
-use mathlib.Core.Path.{◌≡◌, refl, sym, ap, ◌∙◌}
-use Prim.Native.Nat.{◌+◌, ◌-◌, ◌≤◌, ◌<◌}
+use mathlib.Core.Path.{refl, sym, ap, ◌∙◌}
+use Prim.Native.Nat.{◌+◌}
 use native.Mathlib.Omega.{arith}
-use lib.ListN.{length, get_or, set, length-set}
+use lib.ListN.{set, length-set}
 use Rattle.bits.specs.Ops.{xor_w}
-use Rattle.and_parts.specs.inner.Effects.{at, behind, behind_row, placed, row_words}
+use Rattle.and_parts.specs.inner.Effects.{placed}
 use Rattle.and_parts.proofs.Turn.{at_inside}
 use Rattle.and_parts.proofs.Behind.{words_turn, row_fits, row_turn, behind_turn, row_left, row_done}
 use Rattle.and_parts.proofs.fresh.fresh_share.Goals as goal

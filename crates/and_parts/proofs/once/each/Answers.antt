@@ -1,10 +1,10 @@
 -- `and_parts::once::each` meets its contract.
-use mathlib.Core.Path.{◌≡◌, sym, ap, ap₂, ◌∙◌}
+use mathlib.Core.Path.{sym, ap, ap₂, ◌∙◌}
 use mathlib.Core.List.{List, map}
-use Prim.Native.Nat.{ℕ, ◌+◌, ◌-◌, ◌≤◌}
+use Prim.Native.Nat.{ℕ, ◌+◌, ◌-◌}
 use native.Mathlib.Omega.{arith}
-use lib.ListN.{length, get_or, set, length-set}
-use Rattle.masking.specs.Translation.{shares, up_from}
+use lib.ListN.{get_or, set, length-set}
+use Rattle.masking.specs.Translation.{up_from}
 use Rattle.masking.specs.Machine.{exec_steps}
 use Rattle.and_parts.specs.inner.Effects.{at, once_step, value_of}
 use Rattle.masking.proofs.emitted.Rising.{risen, from_first}
@@ -52,17 +52,16 @@ pub loop-i-smaller : goal.loop-i-smaller
 loop-i-smaller c = omega arith
 
 pub loop-i-preserved : goal.loop-i-preserved
-loop-i-preserved c =
-    (
-      omega arith,
-      length-set c.loop-i.cells c.loop-i.p _ ∙ c.loop-i.invariant.1,
-      ap (λ (k : ℕ). k + c.args.d.stride) c.loop-i.invariant.2 ∙ at_next c.args.d c.loop-i.i,
-      ap (λ (k : ℕ). k + c.args.a.stride) c.loop-i.invariant.3 ∙ at_next c.args.a c.loop-i.i,
-      ap (λ (k : ℕ). k + c.args.b.stride) c.loop-i.invariant.4 ∙ at_next c.args.b c.loop-i.i,
-      λ tape. c.loop-i.invariant.5 tape ∙ once_turn c.args.op (at c.args.d) (at c.args.a) (at c.args.b) c.loop-i.i c.args.n (omega arith) tape c.loop-i.cells
-          ∙ ap (exec_steps (map (once_step c.args.op (at c.args.d) (at c.args.a) (at c.args.b)) (up_from (c.loop-i.i + 1) (c.args.n - (c.loop-i.i + 1)))) tape)
-          (ap₂ (set c.loop-i.cells) (sym c.loop-i.invariant.2) (ap₂ (λ (x y : ℕ). value_of c.args.op (get_or c.loop-i.cells x 0) (get_or c.loop-i.cells y 0)) (sym c.loop-i.invariant.3) (sym c.loop-i.invariant.4) ∙ sym c.value.ensures)),
-    )
+loop-i-preserved c = (
+  omega arith,
+  length-set c.loop-i.cells c.loop-i.p _ ∙ c.loop-i.invariant.1,
+  ap (λ (k : ℕ). k + c.args.d.stride) c.loop-i.invariant.2 ∙ at_next c.args.d c.loop-i.i,
+  ap (λ (k : ℕ). k + c.args.a.stride) c.loop-i.invariant.3 ∙ at_next c.args.a c.loop-i.i,
+  ap (λ (k : ℕ). k + c.args.b.stride) c.loop-i.invariant.4 ∙ at_next c.args.b c.loop-i.i,
+  λ tape. c.loop-i.invariant.5 tape ∙ once_turn c.args.op (at c.args.d) (at c.args.a) (at c.args.b) c.loop-i.i c.args.n (omega arith) tape c.loop-i.cells
+      ∙ ap (exec_steps (map (once_step c.args.op (at c.args.d) (at c.args.a) (at c.args.b)) (up_from (c.loop-i.i + 1) (c.args.n - (c.loop-i.i + 1)))) tape)
+      (ap₂ (set c.loop-i.cells) (sym c.loop-i.invariant.2) (ap₂ (λ (x y : ℕ). value_of c.args.op (get_or c.loop-i.cells x 0) (get_or c.loop-i.cells y 0)) (sym c.loop-i.invariant.3) (sym c.loop-i.invariant.4) ∙ sym c.value.ensures)),
+)
 
 pub shape_of-cells : goal.shape_of-cells
 shape_of-cells c = c.loop-i.invariant.1 ∙ sym c.requires.1

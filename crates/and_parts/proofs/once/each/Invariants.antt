@@ -1,16 +1,12 @@
 -- The invariants and measures of the loops of `once.each`.
-use mathlib.Core.Path.{◌≡◌, sym, ap, ap₂, ◌∙◌}
+use mathlib.Core.Path.{◌≡◌}
 use mathlib.Core.List.{List, map}
-use Prim.Native.Nat.{ℕ, ◌+◌, ◌-◌, ◌≤◌}
-use native.Mathlib.Omega.{arith}
-use lib.ListN.{length, get_or, set, length-set}
+use Prim.Native.Nat.{ℕ, ◌-◌, ◌≤◌}
+use lib.ListN.{length}
 use Rattle.masking.specs.Translation.{shares, up_from}
 use Rattle.masking.specs.Machine.{exec_steps}
-use Rattle.and_parts.specs.inner.Effects.{at, once_step, value_of}
-use Rattle.masking.proofs.emitted.Rising.{risen, from_first}
-use Rattle.and_parts.proofs.Turn.{at_first, at_next, at_inside, at_fits, once_turn}
+use Rattle.and_parts.specs.inner.Effects.{at, once_step}
 use Rattle.and_parts.proofs.once.each.Given as goal
-
 
 abbrev pub invariant-loop-i : goal.invariant-loop-i
 invariant-loop-i l =
@@ -22,7 +18,6 @@ invariant-loop-i l =
     × ((tape : List ℕ)
     → exec_steps (map (once_step l.op (at (record { base = l.initial.p; stride = l.over_d })) (at (record { base = l.initial.q; stride = l.over_a })) (at (record { base = l.initial.r; stride = l.over_b }))) (shares l.n)) tape l.initial.cells
     ≡ exec_steps (map (once_step l.op (at (record { base = l.initial.p; stride = l.over_d })) (at (record { base = l.initial.q; stride = l.over_a })) (at (record { base = l.initial.r; stride = l.over_b }))) (up_from l.i (l.n - l.i))) tape l.cells)
-
 
 abbrev pub decreases-loop-i : goal.decreases-loop-i
 decreases-loop-i l = l.n - l.i

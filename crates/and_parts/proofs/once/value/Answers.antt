@@ -1,6 +1,5 @@
 -- `and_parts::once::value` meets its contract.
 use Rattle.bits.specs.Ops.{xor_w, shl_w}
-use borrow.Author.Rules.{rules}
 use Rattle.and_parts.proofs.once.value.Goals as goal
 
 pub overflow_shl-result : goal.overflow_shl-result

@@ -1,10 +1,10 @@
 -- `and_parts::wipe::wipe` meets its contract.
-use mathlib.Core.Path.{◌≡◌, refl, sym, ◌∙◌}
-use Prim.Native.Nat.{◌+◌, ◌-◌, ◌≤◌}
+use mathlib.Core.Path.{refl, sym, ◌∙◌}
+use Prim.Native.Nat.{◌+◌}
 use native.Mathlib.Omega.{arith}
-use lib.ListN.{length, set, length-set}
+use lib.ListN.{set, length-set}
 use Rattle.masking.specs.Translation.{scratch, scratch_cells}
-use Rattle.and_parts.proofs.Zeros.{zeroed, wiping_zeroed, from, from_start, from_turn, from_end}
+use Rattle.and_parts.proofs.Zeros.{wiping_zeroed, from_start, from_turn, from_end}
 use Rattle.and_parts.proofs.wipe.wipe.Goals as goal
 
 pub loop-i-init : goal.loop-i-init
@@ -35,12 +35,11 @@ pub loop-i-smaller : goal.loop-i-smaller
 loop-i-smaller c = omega arith
 
 pub loop-i-preserved : goal.loop-i-preserved
-loop-i-preserved c =
-    (
-      omega arith,
-      length-set (set c.loop-i.cells _ 0) _ 0 ∙ length-set c.loop-i.cells _ 0 ∙ c.loop-i.invariant.1,
-      c.loop-i.invariant.2 ∙ from_turn c.args.n c.loop-i.i (omega arith) c.loop-i.cells,
-    )
+loop-i-preserved c = (
+  omega arith,
+  length-set (set c.loop-i.cells _ 0) _ 0 ∙ length-set c.loop-i.cells _ 0 ∙ c.loop-i.invariant.1,
+  c.loop-i.invariant.2 ∙ from_turn c.args.n c.loop-i.i (omega arith) c.loop-i.cells,
+)
 
 pub bounds-cells-272 : goal.bounds-cells-272
 bounds-cells-272 c = omega (arith, c.loop-i.invariant.1)

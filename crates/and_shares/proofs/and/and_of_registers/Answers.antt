@@ -1,6 +1,5 @@
 -- `and_shares::and::and_of_registers` meets its contract, by the number of shares.
 use native.Mathlib.Omega.{arith}
-use borrow.Author.Rules.{rules}
 use Rattle.and_many.proofs.InHalves.{asked_for, ran_for}
 use Rattle.and_shares.proofs.and.and_of_registers.Goals as goal
 

@@ -1,5 +1,5 @@
 -- `binary64_parts::rounding::encode` meets its contract (`encode_selected`).
-use Rattle.std.proofs.Common.{ℕ, ◌+◌, ◌*◌, ◌%◌, ◌^◌, cond, not, eqb, ltb, leb, ap, ◌∙◌, arith, rules}
+use Rattle.std.proofs.Common.{ℕ, ◌+◌, ◌*◌, ◌%◌, ◌^◌, cond, not, eqb, ltb, leb, ap, ◌∙◌, arith}
 use lib.Count.{count_leading_zeros, leading_le}
 use mir.Facts.{Fits-below}
 use Rattle.binary64.proofs.Round.{round_11}

@@ -1,5 +1,5 @@
 -- `binary64_parts::rounding::pack` meets its contract: below 2046 nothing is lost.
-use Rattle.std.proofs.Common.{◌≡◌, ◌+◌, ◌*◌, ◌^◌, Bool, cond, refl, ◌∙◌, arith, rules}
+use Rattle.std.proofs.Common.{◌≡◌, ◌+◌, ◌*◌, ◌^◌, Bool, cond, refl, ◌∙◌, arith}
 use Rattle.binary64.proofs.Cases.{by_lt}
 use Rattle.binary64_parts.proofs.rounding.pack.Goals as goal
 

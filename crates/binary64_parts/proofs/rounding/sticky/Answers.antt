@@ -1,5 +1,4 @@
 -- `binary64_parts::rounding::sticky` meets its contract (`some`).
-use Rattle.std.proofs.Common.{rules}
 use Rattle.binary64_parts.proofs.Selecting.{some}
 use Rattle.binary64_parts.proofs.rounding.sticky.Goals as goal
 

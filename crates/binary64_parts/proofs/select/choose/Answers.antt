@@ -1,5 +1,5 @@
 -- `binary64_parts::select::choose` meets its contract (`chosen`).
-use Rattle.std.proofs.Common.{ap, ◌∙◌, rules}
+use Rattle.std.proofs.Common.{ap, ◌∙◌}
 use lib.Bits.{bit_xor}
 use Rattle.binary64_parts.proofs.Selecting.{chosen}
 use Rattle.binary64_parts.proofs.select.choose.Goals as goal

@@ -1,5 +1,5 @@
 -- `binary64_parts::select::kept` meets its contract (`masked`).
-use Rattle.std.proofs.Common.{arith, rules}
+use Rattle.std.proofs.Common.{arith}
 use Rattle.binary64_parts.proofs.Selecting.{masked}
 use Rattle.binary64_parts.proofs.select.kept.Goals as goal
 

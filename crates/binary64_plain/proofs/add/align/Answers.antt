@@ -1,5 +1,5 @@
 -- `binary64_plain::add::align` meets its contract: a zero is left out, and nine places up no bit of a significand is lost.
-use Rattle.std.proofs.Common.{◌≡◌, ℕ, ◌+◌, ◌*◌, ◌^◌, ◌<◌, Bool, cond, not, eqb, sym, ap, ◌∙◌, subst, ap₂, arith, rules}
+use Rattle.std.proofs.Common.{◌≡◌, ℕ, ◌+◌, ◌*◌, ◌^◌, ◌<◌, Bool, cond, not, eqb, sym, ap, ◌∙◌, subst, ap₂, arith}
 use Rattle.binary64.specs.Number.{expo, frac}
 use Rattle.binary64.specs.inner.Steps.{jam, aligned}
 use Rattle.binary64.proofs.Cases.{by_eq}
@@ -8,10 +8,10 @@ use Rattle.binary64.proofs.Jam.{jam_zero}
 use Rattle.binary64.proofs.SumCases.{aligned_some, aligned_none}
 use Rattle.binary64_plain.proofs.add.align.Goals as goal
 
-
 -- the significand in its place, or zero
 abbrev placed : ℕ → ℕ
 placed b = cond (not (eqb (expo b) 0)) ((2 ^ 52 + frac b) * 2 ^ 9) 0
+
 pub shift_jam-requires : goal.shift_jam-requires
 shift_jam-requires c =
     let is_placed : c.kept.result ≡ placed c.args.b = c.kept.ensures

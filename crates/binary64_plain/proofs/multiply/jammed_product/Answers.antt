@@ -1,5 +1,5 @@
 -- `binary64_plain::multiply::jammed_product` meets its contract. Each sum and product fits by the bounds on the four partial products, and the columns make the jammed product (Columns).
-use Rattle.std.proofs.Common.{ℕ, ◌+◌, ◌*◌, ap, ◌∙◌, arith, rules}
+use Rattle.std.proofs.Common.{ℕ, ◌+◌, ◌*◌, ap, ◌∙◌, arith}
 use lib.Bits.{mask_lt}
 use Rattle.binary64_plain.proofs.Columns.{Bounds, bounds, low, middle, top, jammed}
 use Rattle.binary64_plain.proofs.multiply.jammed_product.Goals as goal

@@ -1,5 +1,5 @@
 -- `binary64_plain::multiply::magnitude` meets its contract (`product_selected`).
-use Rattle.std.proofs.Common.{ℕ, ◌+◌, ◌*◌, cond, not, eqb, leb, ◌∙◌, ap₂, arith, rules}
+use Rattle.std.proofs.Common.{ℕ, ◌+◌, ◌*◌, cond, not, eqb, leb, ◌∙◌, ap₂, arith}
 use Rattle.binary64.specs.inner.Steps.{jam}
 use Rattle.binary64_plain.proofs.Selected.{product_selected}
 use Rattle.binary64_plain.proofs.multiply.magnitude.Goals as goal

@@ -1,5 +1,5 @@
 -- `binary64_whole::whole::by_range` meets its contract: the two choices, by the word's own E.
-use Rattle.std.proofs.Common.{ℕ, cond, ltb, ap, ◌∙◌, rules}
+use Rattle.std.proofs.Common.{ℕ, cond, ltb, ap, ◌∙◌}
 use Rattle.binary64_whole.proofs.whole.by_range.Goals as goal
 
 pub returns : goal.returns

@@ -1,5 +1,5 @@
 -- `binary64_whole::whole::fraction` meets its contract (`mask`).
-use Rattle.std.proofs.Common.{ℕ, ◌+◌, ◌-◌, ◌/◌, ◌%◌, ◌^◌, ap, ◌∙◌, rules}
+use Rattle.std.proofs.Common.{ℕ, ◌+◌, ◌-◌, ◌/◌, ◌%◌, ◌^◌, ap, ◌∙◌}
 use Rattle.binary64.specs.Number.{expo}
 use Rattle.binary64_whole.proofs.Selected.{mask}
 use Rattle.binary64_whole.proofs.whole.fraction.Goals as goal

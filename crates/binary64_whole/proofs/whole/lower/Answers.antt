@@ -1,5 +1,5 @@
 -- `binary64_whole::whole::lower` meets its contract.
-use Rattle.std.proofs.Common.{ℕ, ◌+◌, ◌-◌, ◌%◌, ◌^◌, ap, ◌∙◌, rules}
+use Rattle.std.proofs.Common.{ℕ, ◌+◌, ◌-◌, ◌%◌, ◌^◌, ap, ◌∙◌}
 use lib.Bits.{bit_and}
 use Rattle.binary64.specs.Number.{sign}
 use Rattle.binary64_whole.specs.inner.Steps.{lowered_by}

@@ -1,5 +1,4 @@
 -- `checks::plan::check_plan` meets its contract.
-use borrow.Author.Rules.{rules}
 use Rattle.checks.proofs.Checked.{plan_check}
 use Rattle.checks.proofs.plan.check_plan.Goals as goal
 

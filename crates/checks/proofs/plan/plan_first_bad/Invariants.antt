@@ -1,5 +1,5 @@
 -- The loop of `plan_first_bad`: the reader stands at a place of the plan up to its end, and no word before is bad. What is left is the measure.
-use Prim.Native.Nat.{ℕ, ◌≤◌, ◌-◌}
+use Prim.Native.Nat.{◌≤◌, ◌-◌}
 use mathlib.Core.Path.{◌≡◌}
 use lib.ListN.{length}
 use Rattle.word.specs.Encoding.{plan_step}

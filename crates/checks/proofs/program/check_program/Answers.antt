@@ -1,5 +1,4 @@
 -- `checks::program::check_program` meets its contract.
-use borrow.Author.Rules.{rules}
 use Rattle.checks.proofs.Checked.{program_check}
 use Rattle.checks.proofs.program.check_program.Goals as goal
 

@@ -1,12 +1,9 @@
 -- `checks::program::program_first_bad` meets its contract.
-use Prim.Native.Nat.{ℕ, ◌≤◌, ◌-◌}
 use mathlib.Core.Path.{sym, ap, ◌∙◌}
 use native.Mathlib.Nat.{zero-add}
 use native.Mathlib.Omega.{arith}
-use lib.ListN.{length}
-use borrow.Author.Rules.{rules}
 use Rattle.word.specs.Encoding.{program_step}
-use Rattle.checks.proofs.Checking.{Passed, passed_one, at_bad, at_end}
+use Rattle.checks.proofs.Checking.{passed_one, at_bad, at_end}
 use Rattle.checks.proofs.program.program_first_bad.Goals as goal
 
 pub loop-i-init : goal.loop-i-init

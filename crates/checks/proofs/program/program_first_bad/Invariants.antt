@@ -1,12 +1,8 @@
 -- The invariants and measures of the loops of `program.program_first_bad`.
-use Prim.Native.Nat.{ℕ, ◌≤◌, ◌-◌}
-use mathlib.Core.Path.{sym, ap, ◌∙◌}
-use native.Mathlib.Nat.{zero-add}
-use native.Mathlib.Omega.{arith}
+use Prim.Native.Nat.{◌≤◌, ◌-◌}
 use lib.ListN.{length}
-use borrow.Author.Rules.{rules}
 use Rattle.word.specs.Encoding.{program_step}
-use Rattle.checks.proofs.Checking.{Passed, passed_one, at_bad, at_end}
+use Rattle.checks.proofs.Checking.{Passed}
 use Rattle.checks.proofs.program.program_first_bad.Given as goal
 
 abbrev pub invariant-loop-i : goal.invariant-loop-i

@@ -1,7 +1,6 @@
 -- `checks::reader::read_at` meets its contract: each branch's test says which case of `read_at` holds.
 use native.Mathlib.Omega.{arith}
 use lib.ListN.{length}
-use borrow.Author.Rules.{rules}
 use borrow.Author.Tests.{le-ltb, lt-ltb}
 use Rattle.checks.proofs.reader.read_at.Goals as goal
 

@@ -1,5 +1,4 @@
 -- `compiled::linear::eight` meets its contract.
-use borrow.Author.Rules.{rules}
 use Rattle.compiled.proofs.linear.eight.Goals as goal
 
 pub returns : goal.returns

@@ -1,5 +1,4 @@
 -- `compiled::linear::four` meets its contract.
-use borrow.Author.Rules.{rules}
 use Rattle.compiled.proofs.linear.four.Goals as goal
 
 pub returns : goal.returns

@@ -1,5 +1,4 @@
 -- `compiled::linear::linear` meets its contract.
-use borrow.Author.Rules.{rules}
 use Rattle.compiled.specs.inner.OnShare.{on_share}
 use Rattle.compiled.proofs.linear.linear.Goals as goal
 

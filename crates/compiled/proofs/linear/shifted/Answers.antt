@@ -1,6 +1,5 @@
 -- `compiled::linear::shifted` meets its contract.
 use mathlib.Core.Path.{sym}
-use borrow.Author.Rules.{rules}
 use Rattle.bits.specs.Ops.{shr_w}
 use Rattle.compiled.proofs.Shifted.{shifted}
 use Rattle.compiled.proofs.linear.shifted.Goals as goal

@@ -1,5 +1,4 @@
 -- `compiled::linear::sixteen` meets its contract.
-use borrow.Author.Rules.{rules}
 use Rattle.compiled.proofs.linear.sixteen.Goals as goal
 
 pub returns : goal.returns

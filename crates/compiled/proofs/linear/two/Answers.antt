@@ -1,5 +1,4 @@
 -- `compiled::linear::two` meets its contract.
-use borrow.Author.Rules.{rules}
 use Rattle.compiled.proofs.linear.two.Goals as goal
 
 pub returns : goal.returns

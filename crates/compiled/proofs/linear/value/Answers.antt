@@ -1,5 +1,4 @@
 -- `compiled::linear::value` meets its contract, by the word's kind.
-use borrow.Author.Rules.{rules}
 use borrow.Author.Tests.{eq-eqb, ne_eqb}
 use Rattle.bits.specs.Ops.{xor_w, not_w, shl_w, shr_w, spread_w}
 use Rattle.compiled.specs.inner.OnShare.{linear_word}

@@ -1,6 +1,5 @@
 -- Written by tools/compile_plan.py: change the plan or the compiler, not this file.
 -- `compiled_floor::runs::gate` meets its contract.
-use borrow.Author.Rules.{rules}
 use Rattle.compiled.proofs.Rest.{only}
 use Rattle.compiled_floor.proofs.runs.gate.Goals as goal
 

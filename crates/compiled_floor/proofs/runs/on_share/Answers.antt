@@ -4,7 +4,6 @@ use mathlib.Core.Path.{ap}
 use mathlib.Core.List.{[], ◌∷◌}
 use Prim.Native.Nat.{ℕ}
 use lib.ListN.{get_or}
-use borrow.Author.Rules.{rules}
 use Rattle.compiled.proofs.Reorder.{in_order}
 use Rattle.compiled.proofs.Rest.{past}
 use Rattle.compiled_floor.specs.inner.Runs.{last_run, runs}

@@ -3,7 +3,6 @@
 use mathlib.Core.Path.{sym}
 use native.Mathlib.Omega.{arith}
 use lib.Seq.{length-take-le}
-use borrow.Author.Rules.{rules}
 use Rattle.plans.specs.words.NearestPlan.{nearest_plan}
 use Rattle.masked_call.proofs.OneOperand.{one_operand}
 use Rattle.compiled_nearest.proofs.calls.call_of_one.Goals as goal
@@ -14,4 +13,4 @@ slice_bounds-call-end c = sym (length-take-le _ _ (omega (arith, c.at_most_eight
 pub returns : goal.returns
 returns c =
     let all = one_operand nearest_plan c.args.x.now c.args.res.now c.args.work.now c.args.tape.now (rw c.at_most_eight-n.ensures at c.call.ensures.answer, (rw c.at_most_eight-n.ensures at c.call.ensures.res, rw c.at_most_eight-n.ensures at c.call.ensures.work)) in
-    record { answer = all.0; res = all.1.0; work = all.1.1; }
+    record { answer = all.0; res = all.1.0; work = all.1.1 }

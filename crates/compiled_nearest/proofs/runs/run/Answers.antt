@@ -1,12 +1,7 @@
 -- Written by tools/compile_plan.py: change the plan or the compiler, not this file.
 -- `compiled_nearest::runs::run` meets its contract.
-use mathlib.Core.Path.{◌≡◌}
-use Prim.Native.Nat.{◌-◌, ◌≤◌}
 use native.Mathlib.Omega.{arith}
-use lib.ListN.{get_or, length}
-use borrow.Author.Rules.{rules}
-use Rattle.masking.specs.Translation.{shares, up_from}
-use Rattle.compiled.specs.inner.OnShare.{share_by_share}
+use lib.ListN.{get_or}
 use Rattle.compiled.proofs.Turn.{begin, turn, end}
 use Rattle.compiled_nearest.specs.inner.Runs.{last_run, runs}
 use Rattle.compiled_nearest.proofs.runs.run.Goals as goal

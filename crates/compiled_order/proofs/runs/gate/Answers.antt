@@ -1,6 +1,5 @@
 -- Written by tools/compile_plan.py: change the plan or the compiler, not this file.
 -- `compiled_order::runs::gate` meets its contract.
-use borrow.Author.Rules.{rules}
 use Rattle.compiled.proofs.Rest.{only}
 use Rattle.compiled_order.proofs.runs.gate.Goals as goal
 

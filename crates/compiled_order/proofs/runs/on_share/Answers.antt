@@ -1,6 +1,5 @@
 -- Written by tools/compile_plan.py: change the plan or the compiler, not this file.
 -- `compiled_order::runs::on_share` meets its contract, run by run.
-use borrow.Author.Rules.{rules}
 use Rattle.compiled.proofs.Rest.{past}
 use Rattle.compiled_order.specs.inner.Runs.{last_run, runs}
 use Rattle.compiled_order.proofs.runs.on_share.Goals as goal

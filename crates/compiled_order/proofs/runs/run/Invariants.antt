@@ -1,21 +1,16 @@
 -- The invariants and measures of the loops of `runs.run`.
 use mathlib.Core.Path.{◌≡◌}
 use Prim.Native.Nat.{◌-◌, ◌≤◌}
-use native.Mathlib.Omega.{arith}
 use lib.ListN.{get_or, length}
-use borrow.Author.Rules.{rules}
 use Rattle.masking.specs.Translation.{shares, up_from}
 use Rattle.compiled.specs.inner.OnShare.{share_by_share}
-use Rattle.compiled.proofs.Turn.{begin, turn, end}
 use Rattle.compiled_order.specs.inner.Runs.{last_run, runs}
 use Rattle.compiled_order.proofs.runs.run.Given as goal
-
 
 abbrev pub invariant-loop-i : goal.invariant-loop-i
 invariant-loop-i l =
     (l.i ≤ l.n) × (length l.cells ≡ 512)
     × (share_by_share (shares l.n) (get_or runs l.k last_run) l.initial.cells ≡ share_by_share (up_from l.i (l.n - l.i)) (get_or runs l.k last_run) l.cells)
-
 
 abbrev pub decreases-loop-i : goal.decreases-loop-i
 decreases-loop-i l = l.n - l.i

@@ -11,13 +11,13 @@ use Rattle.compiled.proofs.Rest.{between, numbered}
 use Rattle.compiled_product.specs.inner.Runs.{after, first, last_run, row, runs}
 use Rattle.compiled_product.proofs.runs.on_share.Goals as goal
 
-
 -- its words in the order in which they are done
 abbrev row_done : ℕ → List ℕ
 row_done q = 538448389 ∷ 1612451329 ∷ 538186760 ∷ 1344539199 ∷ (1613234688 + q) ∷ 538709513 ∷ 1611926017 ∷ 1881674752 ∷ 538971141 ∷ 1613239306 ∷ 539497476 ∷ 539232778 ∷ []
 
 numbered_run : (k : ℕ) → (1 ≤ k) × (k < 52) → get_or runs k last_run ≡ row (k - 0)
 numbered_run k h = numbered row after last_run first 1 51 k h.0 h.1 ∙ ap row (omega (arith, h.0))
+
 pub overflow_sub-k : goal.overflow_sub-k
 overflow_sub-k c = omega (arith, between 1 52 25 _ c.in_default.in_default-own.rest c.requires.0)
 

@@ -5,7 +5,6 @@ use mathlib.Core.List.{[], ◌∷◌}
 use Prim.Native.Nat.{ℕ}
 use native.Mathlib.Omega.{arith}
 use lib.ListN.{get_or}
-use borrow.Author.Rules.{rules}
 use Rattle.compiled.proofs.Reorder.{in_order}
 use Rattle.compiled.proofs.Rest.{reached}
 use Rattle.compiled_sum_from_27.specs.inner.Runs.{last_run, runs}

@@ -10,7 +10,7 @@ use Rattle.compiled_truncate.proofs.Cut.{reads, writes}
 use Rattle.compiled_truncate.proofs.calls.finish.Goals as goal
 
 pub done-requires : goal.done-requires
-done-requires c = record { le_n = (c.requires.0.least, c.requires.0.most, search rules); enough = enough_tape (length c.args.x.now) truncate_plan c.args.x.now c.args.y.now c.args.tape.now c.requires.0 c.requires.3; }
+done-requires c = record { le_n = (c.requires.0.least, c.requires.0.most, search rules); enough = enough_tape (length c.args.x.now) truncate_plan c.args.x.now c.args.y.now c.args.tape.now c.requires.0 c.requires.3 }
 
 pub returns : goal.returns
 returns c =

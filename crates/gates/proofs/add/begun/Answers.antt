@@ -1,7 +1,6 @@
 -- `gates::add::begun` meets its contract. Rests on and_parts' Running for steps done in parts.
 use mathlib.Core.List.{[], ◌++◌}
 use native.Mathlib.Omega.{arith}
-use borrow.Author.Rules.{rules}
 use Rattle.word.specs.declared.step.Step.TheVariants.{And, Shl}
 use Rattle.masking.specs.Translation.{scratch, block, r_g, r_p, r_t}
 use Rattle.and_parts.specs.declared.once.Op.TheVariants as op

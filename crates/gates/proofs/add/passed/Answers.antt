@@ -1,7 +1,6 @@
 -- `gates::add::passed` meets its contract. Rests on add_turn's InTurn for `merged`, and on and_parts' Running for steps done in parts.
 use mathlib.Core.List.{[], ◌∷◌}
 use native.Mathlib.Omega.{arith}
-use borrow.Author.Rules.{rules}
 use Rattle.word.specs.declared.step.Step.TheVariants.{Xor, And, Shl}
 use Rattle.masking.specs.Translation.{r_g, r_p, r_t}
 use Rattle.and_parts.proofs.Running.{start, blocks_part}

@@ -1,17 +1,14 @@
 -- `gates::add::rounds` meets its contract. Rests on Rounds for what is left before a round, and on and_parts' Running for steps done in parts.
 use mathlib.Core.Path.{◌∙◌}
-use mathlib.Core.List.{List, ◌++◌}
-use Prim.Native.Nat.{◌-◌}
+use mathlib.Core.List.{◌++◌}
 use native.Mathlib.Omega.{arith}
-use borrow.Author.Rules.{rules}
 use borrow.Author.Tests.{lt-ltb, le-ltb}
-use Rattle.word.specs.declared.step.Step.{Step}
 use Rattle.word.specs.declared.step.Step.TheVariants.{Xor}
 use Rattle.masking.specs.Translation.{scratch, block, blocks, passed, rounds, r_g, r_t}
 use Rattle.and_parts.specs.declared.once.Op.TheVariants as op
-use Rattle.and_parts.proofs.Running.{Left, start, part, blocks_part, blocks_enough}
+use Rattle.and_parts.proofs.Running.{start, part, blocks_part, blocks_enough}
 use Rattle.gates.proofs.Named.{helper_named, once_ran}
-use Rattle.gates.proofs.Rounds.{begun, mixed, ended, Rest, first, bounds, next, final}
+use Rattle.gates.proofs.Rounds.{begun, mixed, ended, first, bounds, next, final}
 use Rattle.gates.proofs.add.rounds.Goals as goal
 use Rattle.gates.proofs.add.rounds.Goals.{then-k-lt32, else-k-lt32}
 
@@ -20,12 +17,12 @@ loop-k-init c = (rounds, first, start _ _ _ _)
 
 pub begun-t-requires : goal.begun-t-requires
 begun-t-requires c =
-    let N = next c.args.n c.loop-k.invariant.1 c.loop-k.invariant.2 c.loop-k-test.true in record { k_bound = (omega arith, c.requires.n_bound.0, N.2.size ∙ c.requires.n_bound.1, c.requires.n_bound.2, c.requires.n_bound.3, c.requires.n_bound.4); enough = blocks_enough c.args.n (begun c.loop-k.k) (ended c.loop-k.k ++ N.0) N.2 c.requires.enough; }
+    let N = next c.args.n c.loop-k.invariant.1 c.loop-k.invariant.2 c.loop-k-test.true in record { k_bound = (omega arith, c.requires.n_bound.0, N.2.size ∙ c.requires.n_bound.1, c.requires.n_bound.2, c.requires.n_bound.3, c.requires.n_bound.4); enough = blocks_enough c.args.n (begun c.loop-k.k) (ended c.loop-k.k ++ N.0) N.2 c.requires.enough }
 
 pub passed-t-requires : goal.passed-t-requires
 passed-t-requires c =
     let N = next c.args.n c.loop-k.invariant.1 c.loop-k.invariant.2 c.loop-k-test.true in
-    let l = blocks_part c.args.n (begun c.loop-k.k) (ended c.loop-k.k ++ N.0) N.2 c.begun-t.ensures in record { k_bound = (omega arith, c.requires.n_bound.0, l.size ∙ c.requires.n_bound.1, c.requires.n_bound.2, c.requires.n_bound.3, c.requires.n_bound.4); enough = blocks_enough c.args.n (mixed ++ passed c.loop-k.k) N.0 (rw (lt-ltb c.loop-k.k 32 c.if-k-lt32.true) at l) c.requires.enough; }
+    let l = blocks_part c.args.n (begun c.loop-k.k) (ended c.loop-k.k ++ N.0) N.2 c.begun-t.ensures in record { k_bound = (omega arith, c.requires.n_bound.0, l.size ∙ c.requires.n_bound.1, c.requires.n_bound.2, c.requires.n_bound.3, c.requires.n_bound.4); enough = blocks_enough c.args.n (mixed ++ passed c.loop-k.k) N.0 (rw (lt-ltb c.loop-k.k 32 c.if-k-lt32.true) at l) c.requires.enough }
 
 pub each-requires : goal.each-requires
 each-requires c =
@@ -46,10 +43,10 @@ loop-k-preserved c =
       N.0,
       N.1,
       elim c.if-k-lt32.branch [
-        then-k-lt32 x ↦
-          rw (x.t-is, x.cells-is) (blocks_part c.args.n (mixed ++ passed c.loop-k.k) N.0 (rw (lt-ltb c.loop-k.k 32 x.if-k-lt32.true) at l) x.passed-t.ensures)
-      | else-k-lt32 x ↦
-          rw (x.t-is, x.cells-is) (part (block scratch c.args.n (Xor r_g r_g r_t)) (blocks scratch c.args.n N.0) (rw (le-ltb c.loop-k.k 32 x.if-k-lt32.false) at l) (once_ran op.Xor c.args.n G G T c.args.tape.now c.begun-t.result x.each.ensures))
+        | then-k-lt32 x ↦
+            rw (x.t-is, x.cells-is) (blocks_part c.args.n (mixed ++ passed c.loop-k.k) N.0 (rw (lt-ltb c.loop-k.k 32 x.if-k-lt32.true) at l) x.passed-t.ensures)
+        | else-k-lt32 x ↦
+            rw (x.t-is, x.cells-is) (part (block scratch c.args.n (Xor r_g r_g r_t)) (blocks scratch c.args.n N.0) (rw (le-ltb c.loop-k.k 32 x.if-k-lt32.false) at l) (once_ran op.Xor c.args.n G G T c.args.tape.now c.begun-t.result x.each.ensures))
       ],
     )
 

@@ -1,5 +1,4 @@
 -- `gates::gates::and_done` meets its contract.
-use borrow.Author.Rules.{rules}
 use Rattle.gates.proofs.ByField.{with_d, and_asks, and_leaves}
 use Rattle.gates.proofs.gates.and_done.Goals as goal
 

@@ -1,11 +1,9 @@
 -- `plan_copy::copy::copy` meets its contract: the loop keeps that the words passed are copied (Copying).
-use mathlib.Core.Path.{◌≡◌, refl, ◌∙◌}
-use Prim.Native.Nat.{◌-◌, ◌≤◌}
+use mathlib.Core.Path.{refl, ◌∙◌}
 use native.Mathlib.Nat.{le_antisymm}
 use native.Mathlib.Omega.{arith}
-use lib.ListN.{length}
 use borrow.Author.Rules.{rules}
-use Rattle.plan_copy.proofs.Copying.{Copied, none_copied, one_copied, all_copied, copy_refused, copy_done}
+use Rattle.plan_copy.proofs.Copying.{none_copied, one_copied, all_copied, copy_refused, copy_done}
 use Rattle.plan_copy.proofs.copy.copy.Goals as goal
 
 pub returns-then-out-plan : goal.returns-then-out-plan

@@ -1,7 +1,6 @@
 -- `plan_copy::product_rows::row` meets its contract: the table is row 0, and the number of a row is added to the first word.
 use mathlib.Core.Path.{sym}
 use native.Mathlib.Omega.{arith}
-use borrow.Author.Rules.{rules}
 use Rattle.word.specs.Encoding.{put}
 use Rattle.plans.specs.words.ProductPlan.{product_row, carry_row}
 use Rattle.plans.specs.ProductRows.{row_words}

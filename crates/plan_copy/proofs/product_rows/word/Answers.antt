@@ -1,6 +1,5 @@
 -- `plan_copy::product_rows::word` meets its contract: by the part that the word stands in (product/Words).
 use native.Mathlib.Omega.{arith}
-use borrow.Author.Rules.{rules}
 use Rattle.plans.proofs.product.Words.{plan_size, from_head, from_row, from_tail}
 use Rattle.plan_copy.proofs.product_rows.word.Goals as goal
 

@@ -1,12 +1,11 @@
 -- `share_machine::exec::exec` meets its contract.
-use mathlib.Core.Path.{◌≡◌, refl, sym, ap, ap₂, ◌∙◌}
-use mathlib.Core.List.{List, [], ◌∷◌}
-use Prim.Native.Nat.{ℕ, ◌+◌, ◌-◌, ◌≤◌}
+use mathlib.Core.Path.{refl, sym, ap, ap₂, ◌∙◌}
+use mathlib.Core.List.{List}
+use Prim.Native.Nat.{ℕ, ◌+◌}
 use native.Mathlib.Nat.{zero-add}
 use native.Mathlib.Omega.{arith}
-use lib.ListN.{length, get_or, drop, drop_of_length-le}
-use borrow.Author.Rules.{rules}
-use Rattle.masking.specs.Machine.{exec, rands}
+use lib.ListN.{drop, drop_of_length-le}
+use Rattle.masking.specs.Machine.{exec}
 use Rattle.share_machine.proofs.Turns.{rands_turn, exec_turn}
 use Rattle.share_machine.proofs.exec.exec.Goals as goal
 
@@ -15,7 +14,7 @@ loop-i-init c = (omega arith, refl, refl, zero-add _, refl)
 
 pub word_done-t-requires : goal.word_done-t-requires
 word_done-t-requires c =
-    let turn = rands_turn c.args.words.now c.loop-i.i (omega arith) in record { w_in_bounds = omega (arith, turn, c.requires.words_in_bounds); cells_len = c.loop-i.invariant.2 ∙ c.requires.cells_len; }
+    let turn = rands_turn c.args.words.now c.loop-i.i (omega arith) in record { w_in_bounds = omega (arith, turn, c.requires.words_in_bounds); cells_len = c.loop-i.invariant.2 ∙ c.requires.cells_len }
 
 pub loop-i-preserved : goal.loop-i-preserved
 loop-i-preserved c =

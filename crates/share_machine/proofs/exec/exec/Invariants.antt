@@ -1,15 +1,9 @@
 -- The invariants and measures of the loops of `exec.exec`.
-use mathlib.Core.Path.{◌≡◌, refl, sym, ap, ap₂, ◌∙◌}
-use mathlib.Core.List.{List, [], ◌∷◌}
-use Prim.Native.Nat.{ℕ, ◌+◌, ◌-◌, ◌≤◌}
-use native.Mathlib.Nat.{zero-add}
-use native.Mathlib.Omega.{arith}
-use lib.ListN.{length, get_or, drop, drop_of_length-le}
-use borrow.Author.Rules.{rules}
+use mathlib.Core.Path.{◌≡◌}
+use Prim.Native.Nat.{◌+◌, ◌-◌, ◌≤◌}
+use lib.ListN.{length, drop}
 use Rattle.masking.specs.Machine.{exec, rands}
-use Rattle.share_machine.proofs.Turns.{rands_turn, exec_turn}
 use Rattle.share_machine.proofs.exec.exec.Given as goal
-
 
 abbrev pub invariant-loop-i : goal.invariant-loop-i
 invariant-loop-i l =
@@ -18,7 +12,6 @@ invariant-loop-i l =
     × (length l.cells ≡ length l.initial.cells)
     × (l.t + rands (drop l.i l.words) ≡ rands l.words)
     × (exec l.words l.tape l.initial.cells ≡ exec (drop l.i l.words) (drop l.t l.tape) l.cells)
-
 
 abbrev pub decreases-loop-i : goal.decreases-loop-i
 decreases-loop-i l = length l.words - l.i

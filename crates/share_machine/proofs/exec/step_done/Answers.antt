@@ -1,12 +1,11 @@
 -- `share_machine::exec::step_done` meets its contract.
-use mathlib.Core.Path.{◌≡◌, refl, sym, ap, ◌∙◌}
+use mathlib.Core.Path.{refl, sym, ap, ◌∙◌}
 use Prim.Native.Nat.{ℕ}
 use native.Mathlib.Nat.{add-zero}
 use native.Mathlib.Omega.{arith}
 use lib.Dec.{ltb→lt}
 use lib.ListN.{get_or, set}
 use lib.Seq.{get_or-drop}
-use borrow.Author.Rules.{rules}
 use Rattle.bits.specs.Ops.{xor_w, and_w, not_w, shl_w, shr_w, spread_w}
 use Rattle.masking.specs.Machine.{exec_step}
 use Rattle.share_machine.proofs.Steps.{program_cells, program_number}
@@ -122,34 +121,35 @@ overflow_add-result c = omega (arith, (rw c.in-Rand.is at c.requires.s_in_bounds
 
 pub returns-in-Const : goal.returns-in-Const
 unfolding exec_step
-returns-in-Const c = record { place = rw c.in-Const.is (sym (add-zero _)); cells = rw c.in-Const.is (refl); }
+returns-in-Const c = record { place = rw c.in-Const.is (sym (add-zero _)); cells = rw c.in-Const.is (refl) }
 
 pub returns-in-Xor : goal.returns-in-Xor
 unfolding exec_step xor_w
-returns-in-Xor c = record { place = rw c.in-Xor.is (sym (add-zero _)); cells = rw c.in-Xor.is (refl); }
+returns-in-Xor c = record { place = rw c.in-Xor.is (sym (add-zero _)); cells = rw c.in-Xor.is (refl) }
 
 pub returns-in-And : goal.returns-in-And
 unfolding exec_step and_w
-returns-in-And c = record { place = rw c.in-And.is (sym (add-zero _)); cells = rw c.in-And.is (refl); }
+returns-in-And c = record { place = rw c.in-And.is (sym (add-zero _)); cells = rw c.in-And.is (refl) }
 
 pub returns-in-Not : goal.returns-in-Not
 unfolding exec_step not_w
-returns-in-Not c = record { place = rw c.in-Not.is (sym (add-zero _)); cells = rw c.in-Not.is (refl); }
+returns-in-Not c = record { place = rw c.in-Not.is (sym (add-zero _)); cells = rw c.in-Not.is (refl) }
 
 pub returns-in-Shl : goal.returns-in-Shl
 unfolding exec_step shl_w
-returns-in-Shl c = record { place = rw c.in-Shl.is (sym (add-zero _)); cells = rw c.in-Shl.is (refl); }
+returns-in-Shl c = record { place = rw c.in-Shl.is (sym (add-zero _)); cells = rw c.in-Shl.is (refl) }
 
 pub returns-in-Shr : goal.returns-in-Shr
 unfolding exec_step shr_w
-returns-in-Shr c = record { place = rw c.in-Shr.is (sym (add-zero _)); cells = rw c.in-Shr.is (refl); }
+returns-in-Shr c = record { place = rw c.in-Shr.is (sym (add-zero _)); cells = rw c.in-Shr.is (refl) }
 
 pub returns-in-Spread : goal.returns-in-Spread
 unfolding exec_step spread_w
-returns-in-Spread c = record { place = rw c.in-Spread.is (sym (add-zero _)); cells = rw c.in-Spread.is (refl); }
+returns-in-Spread c = record { place = rw c.in-Spread.is (sym (add-zero _)); cells = rw c.in-Spread.is (refl) }
 
 pub returns-in-Add : goal.returns-in-Add
 returns-in-Add c = absurd (rw c.in-Add.is at c.requires.t)
+
 pub returns-in-Rand : goal.returns-in-Rand
 unfolding exec_step
-returns-in-Rand c = record { place = rw c.in-Rand.is (refl); cells = rw c.in-Rand.is (ap (set c.args.cells.now _) (sym (get_or-drop c.args.t c.args.tape.now 0 0 ∙ ap (λ (k : ℕ). get_or c.args.tape.now k 0) (add-zero c.args.t)))); }
+returns-in-Rand c = record { place = rw c.in-Rand.is (refl); cells = rw c.in-Rand.is (ap (set c.args.cells.now _) (sym (get_or-drop c.args.t c.args.tape.now 0 0 ∙ ap (λ (k : ℕ). get_or c.args.tape.now k 0) (add-zero c.args.t)))) }

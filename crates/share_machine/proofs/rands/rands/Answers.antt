@@ -1,10 +1,8 @@
 -- `share_machine::rands::rands` meets its contract.
 use mathlib.Core.Path.{◌≡◌, refl, ap}
-use Prim.Native.Nat.{◌+◌, ◌-◌, ◌≤◌}
 use native.Mathlib.Nat.{zero-add}
 use native.Mathlib.Omega.{arith}
-use lib.ListN.{length, get_or, drop, drop_of_length-le}
-use borrow.Author.Rules.{rules}
+use lib.ListN.{get_or, drop, drop_of_length-le}
 use Rattle.masking.specs.Machine.{rands}
 use Rattle.share_machine.proofs.Turns.{rands_turn}
 use Rattle.share_machine.proofs.ByKind.{takes_rand, takes_none}
@@ -19,10 +17,10 @@ loop-i-preserved c =
     let turn = rands_turn c.args.words.now c.loop-i.i (omega arith) in
     let g = c.requires c.loop-i.i (omega arith) in
     elim c.if-words-i-eq-RAND.branch [
-      then-words-i-eq-RAND w ↦
-        (omega arith, refl, omega arith, omega (arith, takes_rand (get_or c.args.words.now c.loop-i.i 0) (g w.if-words-i-eq-RAND.true) w.if-words-i-eq-RAND.true))
-    | else-words-i-eq-RAND w ↦
-        (omega arith, refl, omega arith, omega (arith, takes_none (get_or c.args.words.now c.loop-i.i 0) w.if-words-i-eq-RAND.false))
+      | then-words-i-eq-RAND w ↦
+          (omega arith, refl, omega arith, omega (arith, takes_rand (get_or c.args.words.now c.loop-i.i 0) (g w.if-words-i-eq-RAND.true) w.if-words-i-eq-RAND.true))
+      | else-words-i-eq-RAND w ↦
+          (omega arith, refl, omega arith, omega (arith, takes_none (get_or c.args.words.now c.loop-i.i 0) w.if-words-i-eq-RAND.false))
     ]
 
 pub returns : goal.returns

@@ -1,21 +1,13 @@
 -- The invariants and measures of the loops of `rands.rands`.
-use mathlib.Core.Path.{◌≡◌, refl, ap}
-use mathlib.Core.Logic.{⊎_elim}
+use mathlib.Core.Path.{◌≡◌}
 use Prim.Native.Nat.{◌+◌, ◌-◌, ◌≤◌}
-use native.Mathlib.Nat.{zero-add}
-use native.Mathlib.Omega.{arith}
-use lib.ListN.{length, get_or, drop, drop_of_length-le}
-use borrow.Author.Rules.{rules}
+use lib.ListN.{length, drop}
 use Rattle.masking.specs.Machine.{rands}
-use Rattle.share_machine.proofs.Turns.{rands_turn}
-use Rattle.share_machine.proofs.ByKind.{takes_rand, takes_none}
 use Rattle.share_machine.proofs.rands.rands.Given as goal
-
 
 abbrev pub invariant-loop-i : goal.invariant-loop-i
 invariant-loop-i l =
     (l.i ≤ length l.words) × (l.i-end ≡ length l.words) × (l.count ≤ l.i) × (l.count + rands (drop l.i l.words) ≡ rands l.words)
-
 
 abbrev pub decreases-loop-i : goal.decreases-loop-i
 decreases-loop-i l = length l.words - l.i

@@ -1,6 +1,5 @@
 -- `share_run::run::run_answer` meets its contract.
 use mathlib.Core.Path.{sym, ◌∙◌}
-use borrow.Author.Rules.{rules}
 use Rattle.checks_run.proofs.RunChecked.{run_next, run_passed, run_stopped}
 use Rattle.share_machine.proofs.ByKind.{taken_good}
 use Rattle.share_run.proofs.run.run_answer.Goals as goal

@@ -2,7 +2,6 @@
 use mathlib.Core.Bool.{not}
 use mathlib.Core.Path.{sym, ap, ◌∙◌}
 use native.Mathlib.Omega.{arith}
-use borrow.Author.Rules.{rules}
 use Rattle.word.specs.Encoding.{plan_step}
 use Rattle.word.specs.Layout.{plan_max}
 use Rattle.checks.specs.Answers.{plan_checked}
@@ -27,7 +26,7 @@ overflow_cast-n c = omega (arith, in_range c.args.n (sym (ap not c.is_share_coun
 pub counted-requires : goal.counted-requires
 counted-requires c =
     let p = passed_check plan_max plan_step plan_checked plan_check _ _ c.check_plan-checked.ensures c.if-checked-ne0.false in
-    let r = in_range c.args.n (sym (ap not c.is_share_count.ensures) ∙ c.if-not-is_share_count.false-raw) in record { le_n = (omega (arith, r.0), r.1); plan_len_bound = p.short; }
+    let r = in_range c.args.n (sym (ap not c.is_share_count.ensures) ∙ c.if-not-is_share_count.false-raw) in record { le_n = (omega (arith, r.0), r.1); plan_len_bound = p.short }
 
 pub returns : goal.returns
 unfolding plan_for

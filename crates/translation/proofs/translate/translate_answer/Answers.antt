@@ -1,7 +1,6 @@
 -- `translation::translate::translate_answer` meets its contract.
 use mathlib.Core.Path.{refl, sym, ap, ◌∙◌}
 use borrow.Author.Tests.{lt-ltb, le-ltb}
-use borrow.Author.Rules.{rules}
 use Rattle.checks.specs.declared.answer.Answer.{Answer}
 use Rattle.translation.specs.Calls.{measured}
 use Rattle.translation.proofs.Counted.{next_answer, turned_down}

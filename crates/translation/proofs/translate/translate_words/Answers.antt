@@ -1,12 +1,10 @@
 -- `translation::translate::translate_words` meets its contract.
-use mathlib.Core.Path.{◌≡◌, refl, ap, ◌∙◌}
-use Prim.Native.Nat.{◌-◌, ◌≤◌}
+use mathlib.Core.Path.{refl, ap, ◌∙◌}
 use native.Mathlib.Omega.{arith}
 use lib.ListN.{length, get_or, length-set, length-drop}
-use borrow.Author.Rules.{rules}
 use Rattle.word.specs.Encoding.{plan_step}
 use Rattle.masking.specs.Translation.{words_for}
-use Rattle.translation.proofs.Program.{Going, going, next_fits, going_on, gone, set_room}
+use Rattle.translation.proofs.Program.{going, next_fits, going_on, gone, set_room}
 use Rattle.checks.proofs.Slices.{part_is, part_back}
 use Rattle.translation.proofs.translate.translate_words.Goals as goal
 
@@ -27,7 +25,7 @@ slice_bounds-plan_word-start c =
 
 pub plan_word-at-requires : goal.plan_word-at-requires
 plan_word-at-requires c =
-    let r = next_fits c.args.n c.args.plan.now c.requires.accepted _ c.loop-i.out c.loop-i.at c.loop-i.i c.loop-i.invariant.2 (omega arith) (set_room c.head.result _ c.args.out.now c.requires.plan_in_bounds) in record { le_n = (omega (arith, c.requires.accepted.least), c.requires.accepted.most); w_in_bounds = omega (arith, ap length (part_is c.loop-i.at c.loop-i.out (omega arith)), length-drop c.loop-i.at c.loop-i.out); }
+    let r = next_fits c.args.n c.args.plan.now c.requires.accepted _ c.loop-i.out c.loop-i.at c.loop-i.i c.loop-i.invariant.2 (omega arith) (set_room c.head.result _ c.args.out.now c.requires.plan_in_bounds) in record { le_n = (omega (arith, c.requires.accepted.least), c.requires.accepted.most); w_in_bounds = omega (arith, ap length (part_is c.loop-i.at c.loop-i.out (omega arith)), length-drop c.loop-i.at c.loop-i.out) }
 
 pub overflow_add-at : goal.overflow_add-at
 overflow_add-at c =
@@ -35,8 +33,7 @@ overflow_add-at c =
 
 pub loop-i-preserved : goal.loop-i-preserved
 loop-i-preserved c =
-    let r = next_fits c.args.n c.args.plan.now c.requires.accepted _ c.loop-i.out c.loop-i.at c.loop-i.i c.loop-i.invariant.2 (omega arith) (set_room c.head.result _ c.args.out.now c.requires.plan_in_bounds) in
-    (
+    let r = next_fits c.args.n c.args.plan.now c.requires.accepted _ c.loop-i.out c.loop-i.at c.loop-i.i c.loop-i.invariant.2 (omega arith) (set_room c.head.result _ c.args.out.now c.requires.plan_in_bounds) in (
       omega arith,
       refl,
       going_on c.args.n c.args.plan.now c.requires.accepted _ c.loop-i.out c.loop-i.at c.loop-i.i c.loop-i.invariant.2 (omega arith)

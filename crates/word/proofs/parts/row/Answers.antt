@@ -1,7 +1,6 @@
 -- `word::parts::row` meets its contract.
 use borrow.Author.Tests.{ne_eqb}
 use Rattle.word.specs.Encoding as spec
-use borrow.Author.Rules.{rules}
 use Rattle.word.proofs.parts.row.Goals as goal
 
 pub returns-in-1 : goal.returns-in-1

@@ -1,6 +1,5 @@
 -- `word_steps::rules::in_plan` meets its contract.
 use borrow.Author.Tests.{lt-ltb}
-use borrow.Author.Rules.{rules}
 use Rattle.word.proofs.Ranges.{and_true}
 use Rattle.word_steps.proofs.rules.in_plan.Goals as goal
 

@@ -1,6 +1,5 @@
 -- `word_steps::rules::in_program` meets its contract.
 use borrow.Author.Tests.{ne_eqb}
-use borrow.Author.Rules.{rules}
 use Rattle.word_steps.proofs.rules.in_program.Goals as goal
 
 pub returns-then-kind_number-eq-ADD : goal.returns-then-kind_number-eq-ADD

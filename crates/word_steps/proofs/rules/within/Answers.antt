@@ -1,5 +1,4 @@
 -- `word_steps::rules::within` meets its contract.
-use borrow.Author.Rules.{rules}
 use Rattle.word.proofs.Ranges.{and_true, and_assoc}
 use Rattle.word_steps.proofs.rules.within.Goals as goal
 

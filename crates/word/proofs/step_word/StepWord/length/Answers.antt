@@ -3,7 +3,6 @@ use borrow.Author.Tests.{ne_eqb}
 use native.Mathlib.Omega.{arith}
 use Rattle.word.specs.Layout.{length_of}
 use Rattle.word.proofs.Small.{square_lt}
-use borrow.Author.Rules.{rules}
 use Rattle.word.proofs.step_word.StepWord.length.Goals as goal
 
 pub overflow_mul-result : goal.overflow_mul-result

@@ -3,7 +3,6 @@ use borrow.Author.Tests.{ne_eqb}
 use mathlib.Core.Path.{◌≡◌, sym, ◌∙◌}
 use native.Mathlib.Omega.{arith}
 use Rattle.word.specs.Encoding.{named, bit27}
-use borrow.Author.Rules.{rules}
 use Rattle.word.proofs.step_word.StepWord.named.Goals as goal
 
 pub row-requires : goal.row-requires

@@ -7,7 +7,6 @@ use borrow.Author.Tests.{ne_eqb}
 use native.Mathlib.Omega.{arith}
 use Rattle.word.specs.Layout.{tape_of}
 use Rattle.word.proofs.Small.{pairs_lt}
-use borrow.Author.Rules.{rules}
 use Rattle.word.proofs.step_word.StepWord.tape.Goals as goal
 
 -- no shares, no pairs
