@@ -13,7 +13,7 @@ import shutil
 import sys
 
 from plan_cut import ROOT, Plan, refuse
-from plan_text import parts, piece_parts, runs_spec
+from plan_text import parts, piece_parts
 
 TEXTS = os.path.join(ROOT, "tools", "compiled")
 
@@ -45,13 +45,13 @@ def crates_of(plan):
         crates[later[-1].crate] |= specs
     else:
         crates = {plan.crate: specs | runs | calls}
-    return {crate: finished(files, put_in | {"CRATE": crate, "RUNS_SPEC": runs_spec(plan, crate)}) for crate, files in crates.items()}
+    return {crate: finished(files, put_in | {"CRATE": crate}) for crate, files in crates.items()}
 
 
 def piece_files(plan, piece):
     """the proof of a function that does runs; the first stands in the file runs, another in a crate of its own"""
     given = texts(os.path.join(TEXTS, "piece"))
-    files = {"/".join(["proofs"] + piece.place + ["Proof.antt"]): given["proofs/on_share.antt"]} | ({"src/lib.rt": given["src/lib.rt"]} if piece.at else {})
+    files = {"/".join(["proofs"] + piece.place + ["Answers.antt"]): given["proofs/on_share.antt"]} | ({"src/lib.rt": given["src/lib.rt"]} if piece.at else {})
     return filled(files, piece_parts(plan, piece))
 
 
@@ -62,8 +62,8 @@ def filled(files, put_in):
 
 
 def finished(files, put_in):
-    files = filled(filled(files, put_in), {name: put_in[name] for name in ("WRITTEN", "PLAN", "RUNS_SPEC", "CRATE", "TITLE", "MODULE")})  # they stand in the parts too
-    return {path: text.replace("\n\n\n", "\n\n") for path, text in files.items()}  # where a part is empty
+    in_parts = {name: put_in[name] for name in ("WRITTEN", "PLAN", "RUNS_SPEC", "CRATE", "TITLE", "MODULE")}  # what stands in the parts too
+    return filled(filled(files, put_in), in_parts)
 
 
 def present(folder):

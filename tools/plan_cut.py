@@ -212,7 +212,7 @@ class Plan:
             refuse(f"{name} wants a title, words, and 1 or 2 operands")
         self.crate, self.title = "compiled_" + name, section["title"]
         self.own = "plan" not in section
-        own = "Rattle·%s·specs.specs.Plan.%sPlan" % (self.crate, name)
+        own = "Rattle.%s.specs.Plan.%s_plan" % (self.crate, name)
         self.module, _, self.plan = section.get("plan", own).rpartition(".")
         self.unfold, self.operands = section.get("unfold", "").split(), int(section["operands"])
         self.words = checked(name, words_of(section), self.operands)
