@@ -17,7 +17,7 @@ use Rattle.fft_numbers.specs.Complex.{slot_a, slot_b, slot_c, slot_d, slot_of_pa
 use Rattle.fft_numbers.specs.Layer.{block_count, place_of, pair_of, first_pairs}
 use Rattle.fft_numbers.specs.Layout.{number_of}
 use Rattle.fft_numbers.specs.Calls.{complex_start, complex_end, complex_shares, layer_start, layer_end, layer_shares}
-use Rattle.fft_numbers.specs.Means.{sum_from, re_from, im_from, pair_after, PairOnShares, ComplexComesTo, PairComesTo, OnSharesMeans}
+use Rattle.fft_numbers.specs.Means.{re_from, im_from, pair_after, PairOnShares, ComplexComesTo, PairComesTo, OnSharesMeans}
 use Rattle.fft_numbers.proofs.Laws.{shares_append}
 use Rattle.fft_numbers.proofs.Laid.{laid_size, read_back}
 use Rattle.fft_numbers.proofs.Tape.{pairs_tape, pair_units}

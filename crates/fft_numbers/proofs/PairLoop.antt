@@ -1,6 +1,6 @@
 -- The loop over a layer's pairs, on plain words and on shares: what holds at pair k (`Turn`), so that no number of the loop wraps, for the first pair
 -- and from one to the next; and what holds further of a pair that is there (Powers' `pair_placed`). Rests on Powers.
-use mathlib.Core.Path.{◌≡◌, sym, ◌∙◌}
+use mathlib.Core.Path.{◌≡◌}
 use mathlib.Core.Bool.{true}
 use Prim.Native.Nat.{ℕ, ◌+◌, ◌*◌, ◌/◌, ◌%◌, ◌≤◌, ◌<◌}
 use native.Mathlib.Nat.{mul_assoc, mod-lt, div-add-mod, div-le_self, le_antisymm}

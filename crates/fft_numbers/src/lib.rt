@@ -2,6 +2,5 @@
 // `fft_plain` has them on plain words, `fft_layer` on shares.
 #![tactic(auto)]
 
-
 // A number's sign bit.
 pub const SIGN: u64 = 0x8000_0000_0000_0000;

@@ -9,7 +9,6 @@ use Rattle.plans.specs.Computes.{Computes}
 use Rattle.plans.specs.BuiltIns.{described, plan_of}
 use Rattle.plans.proofs.BuiltIns.{built_ins}
 use Rattle.operations.specs.Masked.{AnyStart, OnShares, Masked}
-use Rattle.operations.specs.RandomWords.{RandomWords}
 use Rattle.masked_call.specs.inner.Inner.{GoodPlan}
 use Rattle.masked_call.proofs.Plans.{runs_whole}
 use Rattle.masked_call.proofs.Known.{uncleared_steps}

@@ -1,12 +1,12 @@
 -- `fft_all_pairs::all_pairs` meets its contract: the loop keeps what fft_numbers's PairLoop says of pair k, and that the pairs before it are done
 -- (InRow).
 use mathlib.Core.Path.{sym, ap, ◌∙◌}
-use Prim.Native.Nat.{◌-◌, ◌/◌, ◌<◌}
+use Prim.Native.Nat.{◌/◌, ◌<◌}
 use native.Mathlib.Omega.{arith}
 use lib.ListN.{length}
 use Rattle.fft_numbers.proofs.Powers.{pair_placed}
-use Rattle.fft_numbers.proofs.PairLoop.{Turn, first, next, last}
-use Rattle.fft_all_pairs.proofs.InRow.{PairsDone, none_done, one_done, all_done, pair_enough}
+use Rattle.fft_numbers.proofs.PairLoop.{first, next, last}
+use Rattle.fft_all_pairs.proofs.InRow.{none_done, one_done, all_done, pair_enough}
 use Rattle.fft_all_pairs.proofs.all_pairs.Goals as goal
 
 pub overflow_mul-blocks : goal.overflow_mul-blocks

@@ -2,7 +2,6 @@
 use mathlib.Core.Path.{ap, ◌∙◌}
 use Prim.Native.Nat.{ℕ}
 use lib.ListN.{replicate}
-use borrow.Author.Rules.{rules}
 use Rattle.fft_all_pairs.proofs.layer_done.Goals as goal
 
 pub all_pairs-requires : goal.all_pairs-requires

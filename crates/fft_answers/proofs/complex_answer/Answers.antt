@@ -1,8 +1,6 @@
 -- `fft_answers::complex_answer` meets its contract.
 use mathlib.Core.Path.{sym, ◌∙◌}
-use Prim.Native.Nat.{◌-◌}
 use native.Mathlib.Omega.{arith}
-use borrow.Author.Rules.{rules}
 use borrow.Author.Tests.{lt-ltb, le-ltb, eq-eqb, ne_eqb, not-false}
 use Rattle.word.proofs.Small.{share_range}
 use Rattle.masked_call.proofs.Tape.{pairs_most}

@@ -6,7 +6,7 @@ use Rattle.fft_calls.proofs.OnSlots.{run_ready, call_done}
 use Rattle.fft_calls.proofs.multiply.Goals as goal
 
 pub done-next-requires : goal.done-next-requires
-done-next-requires c = record { le_n = search rules; enough = run_ready Product c.args.n c.args.k c.args.a c.args.b c.args.start c.args.tape.now c.args.work.now c.requires; }
+done-next-requires c = record { le_n = search rules; enough = run_ready Product c.args.n c.args.k c.args.a c.args.b c.args.start c.args.tape.now c.args.work.now c.requires }
 
 pub returns : goal.returns
 returns c =

@@ -1,8 +1,7 @@
 -- `fft_copies::copy` meets its contract.
 use mathlib.Core.Path.{refl}
-use Prim.Native.Nat.{◌-◌}
 use native.Mathlib.Omega.{arith}
-use Rattle.fft_copies.proofs.Written.{Copied, none_copied, one_copied, all_copied}
+use Rattle.fft_copies.proofs.Written.{none_copied, one_copied, all_copied}
 use Rattle.fft_copies.proofs.copy.Goals as goal
 
 pub loop-i-init : goal.loop-i-init

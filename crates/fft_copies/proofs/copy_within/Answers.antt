@@ -1,9 +1,9 @@
 -- `fft_copies::copy_within` meets its contract.
 use mathlib.Core.Path.{refl}
-use Prim.Native.Nat.{◌+◌, ◌-◌, ◌*◌}
+use Prim.Native.Nat.{◌+◌, ◌*◌}
 use native.Mathlib.Omega.{arith}
 use lib.ListN.{get_or}
-use Rattle.fft_copies.proofs.Written.{Copied, none_copied, one_copied, all_copied, Unread, still_unread}
+use Rattle.fft_copies.proofs.Written.{none_copied, one_copied, all_copied, still_unread}
 use Rattle.fft_copies.proofs.copy_within.Goals as goal
 
 pub loop-i-init : goal.loop-i-init

@@ -2,7 +2,6 @@
 use mathlib.Core.Path.{ap, ◌∙◌}
 use Prim.Native.Nat.{ℕ}
 use lib.ListN.{length, replicate}
-use borrow.Author.Rules.{rules}
 use borrow.Author.Tests.{eq-eqb, ne_eqb}
 use Rattle.fft_numbers.proofs.Answered.{complex_ready}
 use Rattle.fft_numbers.proofs.Holds.{transforms}
@@ -17,7 +16,7 @@ product_done-requires c =
 
 pub returns-then-answer-eq0 : goal.returns-then-answer-eq0
 returns-then-answer-eq0 c =
-    let R = complex_ready c.args.n (length c.args.x.now) (length c.args.y.now) (length c.args.res.now) (length c.args.work.now) (length c.args.tape.now) c.complex_answer-answer.result c.complex_answer-answer.ensures c.if-answer-eq0.true in record { answer = c.complex_answer-answer.ensures; res = rw (← c.complex_answer-answer.ensures, eq-eqb _ 0 c.if-answer-eq0.true) c.product_done.ensures.0; work = rw (← c.complex_answer-answer.ensures, eq-eqb _ 0 c.if-answer-eq0.true) (c.product_done.ensures.1 ∙ ap (λ (k : ℕ). replicate k 0) R.work_is); holds = transforms; means = on_shares_means; words = transform_words; }
+    let R = complex_ready c.args.n (length c.args.x.now) (length c.args.y.now) (length c.args.res.now) (length c.args.work.now) (length c.args.tape.now) c.complex_answer-answer.result c.complex_answer-answer.ensures c.if-answer-eq0.true in record { answer = c.complex_answer-answer.ensures; res = rw (← c.complex_answer-answer.ensures, eq-eqb _ 0 c.if-answer-eq0.true) c.product_done.ensures.0; work = rw (← c.complex_answer-answer.ensures, eq-eqb _ 0 c.if-answer-eq0.true) (c.product_done.ensures.1 ∙ ap (λ (k : ℕ). replicate k 0) R.work_is); holds = transforms; means = on_shares_means; words = transform_words }
 
 pub returns-else-answer-eq0 : goal.returns-else-answer-eq0
-returns-else-answer-eq0 c = record { answer = c.complex_answer-answer.ensures; res = rw (← c.complex_answer-answer.ensures, ne_eqb _ 0 c.if-answer-eq0.false); work = rw (← c.complex_answer-answer.ensures, ne_eqb _ 0 c.if-answer-eq0.false); holds = transforms; means = on_shares_means; words = transform_words; }
+returns-else-answer-eq0 c = record { answer = c.complex_answer-answer.ensures; res = rw (← c.complex_answer-answer.ensures, ne_eqb _ 0 c.if-answer-eq0.false); work = rw (← c.complex_answer-answer.ensures, ne_eqb _ 0 c.if-answer-eq0.false); holds = transforms; means = on_shares_means; words = transform_words }

@@ -2,7 +2,6 @@
 use mathlib.Core.Path.{ap, ◌∙◌}
 use Prim.Native.Nat.{ℕ}
 use lib.ListN.{replicate}
-use borrow.Author.Rules.{rules}
 use Rattle.fft_lent.proofs.InAndOut.{result_is}
 use Rattle.fft_lent.proofs.product_done.Goals as goal
 

@@ -1,5 +1,4 @@
 -- `fft_lent::store` meets its contract.
-use borrow.Author.Rules.{rules}
 use Rattle.fft_lent.proofs.InAndOut.{parts_out}
 use Rattle.fft_lent.proofs.store.Goals as goal
 

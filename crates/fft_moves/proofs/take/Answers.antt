@@ -3,7 +3,6 @@ use mathlib.Core.Path.{refl}
 use mathlib.Core.List.{[], ◌∷◌}
 use Prim.Native.Nat.{◌*◌}
 use native.Mathlib.Omega.{arith}
-use borrow.Author.Rules.{rules}
 use Rattle.fft_numbers.specs.Acts.{Put}
 use Rattle.fft_numbers.specs.Complex.{slot_a, slot_b}
 use Rattle.fft_moves.specs.inner.Inner.{numbers_loaded}

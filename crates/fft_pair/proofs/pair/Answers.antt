@@ -4,7 +4,6 @@ use mathlib.Core.List.{◌++◌}
 use Prim.Native.Nat.{◌*◌}
 use native.Mathlib.Omega.{arith}
 use lib.ListN.{drop}
-use borrow.Author.Rules.{rules}
 use Rattle.fft_numbers.specs.Complex.{complex_acts}
 use Rattle.fft_numbers.specs.Layer.{pair_taken, plus_minus, put_back}
 use Rattle.fft_slots.proofs.OneByOne.{done_then, held_done}

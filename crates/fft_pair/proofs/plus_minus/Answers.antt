@@ -1,7 +1,6 @@
 -- `fft_pair::plus_minus` meets its contract.
 use mathlib.Core.List.{List, [], ◌∷◌}
 use native.Mathlib.Omega.{arith}
-use borrow.Author.Rules.{rules}
 use Rattle.binary64.specs.Operations.{Sum}
 use Rattle.fft_numbers.specs.Acts.{Act, Flip, Call}
 use Rattle.fft_numbers.specs.Complex.{slot_re, slot_im}
@@ -9,9 +8,9 @@ use Rattle.fft_numbers.specs.Layer.{slot_ure, slot_uim, slot_plus_re, slot_plus_
 use Rattle.fft_slots.proofs.OneByOne.{held_then}
 use Rattle.fft_pair.proofs.plus_minus.Goals as goal
 
-
 abbrev plus : List Act
 plus = Call Sum slot_plus_re slot_ure slot_re ∷ Call Sum slot_plus_im slot_uim slot_im ∷ []
+
 pub returns : goal.returns
 returns c =
     let f = Flip slot_re in

@@ -1,5 +1,4 @@
 -- `fft_plain::difference` meets its contract.
-use borrow.Author.Rules.{rules}
 use Rattle.bits.specs.Ops.{xor_w}
 use Rattle.fft_plain.proofs.difference.Goals as goal
 

@@ -1,6 +1,5 @@
 -- `fft_plain::layer` meets its contract.
 use lib.ListN.{length}
-use borrow.Author.Rules.{rules}
 use borrow.Author.Tests.{eq-eqb, ne_eqb}
 use Rattle.fft_numbers.proofs.Answered.{plain_ready}
 use Rattle.fft_numbers.proofs.Means.{layer_means}
@@ -12,7 +11,7 @@ all_pairs-requires c =
     (R.layer, R.numbers_are, R.factors_are)
 
 pub returns-then-answer-eq0 : goal.returns-then-answer-eq0
-returns-then-answer-eq0 c = record { answer = c.layer_answer-answer.ensures; numbers = rw (← c.layer_answer-answer.ensures, eq-eqb _ 0 c.if-answer-eq0.true) c.all_pairs.ensures; holds = layer_means; }
+returns-then-answer-eq0 c = record { answer = c.layer_answer-answer.ensures; numbers = rw (← c.layer_answer-answer.ensures, eq-eqb _ 0 c.if-answer-eq0.true) c.all_pairs.ensures; holds = layer_means }
 
 pub returns-else-answer-eq0 : goal.returns-else-answer-eq0
-returns-else-answer-eq0 c = record { answer = c.layer_answer-answer.ensures; numbers = rw (← c.layer_answer-answer.ensures, ne_eqb _ 0 c.if-answer-eq0.false); holds = layer_means; }
+returns-else-answer-eq0 c = record { answer = c.layer_answer-answer.ensures; numbers = rw (← c.layer_answer-answer.ensures, ne_eqb _ 0 c.if-answer-eq0.false); holds = layer_means }

@@ -1,7 +1,6 @@
 -- `fft_product::four_products` meets its contract.
 use mathlib.Core.List.{[], ◌∷◌}
 use native.Mathlib.Omega.{arith}
-use borrow.Author.Rules.{rules}
 use Rattle.binary64.specs.Operations.{Product}
 use Rattle.fft_numbers.specs.Acts.{Call}
 use Rattle.fft_numbers.specs.Complex.{slot_a, slot_b, slot_c, slot_d, slot_ac, slot_bd, slot_ad, slot_bc}

@@ -1,6 +1,5 @@
 -- `fft_product::multiply_complex` meets its contract.
 use native.Mathlib.Omega.{arith}
-use borrow.Author.Rules.{rules}
 use Rattle.fft_product.specs.inner.Inner.{four_products, two_sums}
 use Rattle.fft_slots.proofs.OneByOne.{held_then}
 use Rattle.fft_product.proofs.multiply_complex.Goals as goal

@@ -1,7 +1,6 @@
 -- `fft_product::two_sums` meets its contract.
 use mathlib.Core.List.{[], ◌∷◌}
 use native.Mathlib.Omega.{arith}
-use borrow.Author.Rules.{rules}
 use Rattle.binary64.specs.Operations.{Sum}
 use Rattle.fft_numbers.specs.Acts.{Flip, Call}
 use Rattle.fft_numbers.specs.Complex.{slot_ac, slot_bd, slot_ad, slot_bc, slot_re, slot_im}

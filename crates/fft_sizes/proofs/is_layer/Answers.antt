@@ -1,6 +1,5 @@
 -- `fft_sizes::is_layer` meets its contract.
 use mathlib.Core.Path.{refl, sym, ◌∙◌}
-use borrow.Author.Rules.{rules}
 use borrow.Author.Tests.{le-leb, lt-leb, not-true, not-false}
 use Rattle.fft_numbers.specs.Layer.{is_layer}
 use Rattle.fft_numbers.proofs.Powers.{stop, go_on}

@@ -1,12 +1,12 @@
 -- `fft_sizes::is_power_of_two` meets its contract: the loop keeps that k is none of the powers before 2^e.
 use mathlib.Core.Path.{◌≡◌, refl, sym, ap, ◌∙◌}
-use Prim.Native.Nat.{ℕ, ◌-◌, ◌*◌, ◌^◌, ◌≤◌}
+use Prim.Native.Nat.{ℕ, ◌*◌, ◌^◌, ◌≤◌}
 use native.Mathlib.Nat.{pow-succ'}
 use native.Mathlib.Numerals.{add-one}
 use native.Mathlib.Omega.{arith}
 use lib.Pow.{pow_mono}
 use borrow.Author.Tests.{eq-eqb, ne_eqb}
-use Rattle.fft_numbers.specs.Layer.{one_of, is_power_of_two}
+use Rattle.fft_numbers.specs.Layer.{one_of}
 use Rattle.fft_numbers.proofs.Powers.{powers_from, powers_turn}
 use Rattle.fft_sizes.proofs.is_power_of_two.Goals as goal
 

@@ -1,5 +1,4 @@
 -- `fft_slots::flip` meets its contract.
-use borrow.Author.Rules.{rules}
 use Rattle.bits.specs.Ops.{xor_w}
 use Rattle.fft_slots.proofs.Holding.{held_flipped}
 use Rattle.fft_slots.proofs.flip.Goals as goal

@@ -1,5 +1,4 @@
 -- `fft_slots::operands` meets its contract.
-use borrow.Author.Rules.{rules}
 use Rattle.fft_slots.proofs.Registers.{operands_are}
 use Rattle.fft_slots.proofs.operands.Goals as goal
 

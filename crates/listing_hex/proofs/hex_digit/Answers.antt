@@ -1,6 +1,5 @@
 -- `listing_hex::hex_digit` meets its contract.
 use borrow.Author.Tests.{lt-ltb, le-ltb}
-use borrow.Author.Rules.{rules}
 use Rattle.listing_hex.proofs.hex_digit.Goals as goal
 
 pub returns-then-x-lt10 : goal.returns-then-x-lt10

@@ -2,7 +2,6 @@
 use Rattle.listing_lines.specs.Lines.{hex_line}
 use native.Mathlib.Omega.{arith}
 use lib.ListN.{length-set}
-use borrow.Author.Rules.{rules}
 use Rattle.listing_hex.proofs.hex_line.Goals as goal
 
 pub bounds-out-1 : goal.bounds-out-1

@@ -1,13 +1,11 @@
 -- `listing_hex::hex_lines` meets its contract.
 use Rattle.checks.proofs.Slices.{part_is, part_back}
 use Rattle.listing_hex.proofs.Hex.{lines_on, line_fits, lines_length}
-use Rattle.listing_lines.proofs.Placed.{Left, start, whole, renamed, wrote, wrote_none}
+use Rattle.listing_lines.proofs.Placed.{start, whole, renamed, wrote, wrote_none}
 use Rattle.listing_lines.specs.Lines.{hex_line, hex_lines}
-use borrow.Author.Rules.{rules}
-use lib.ListN.{length, drop, get_or, length-drop, drop_of_length-le}
+use lib.ListN.{length, get_or, length-drop, drop_of_length-le}
 use native.Mathlib.Omega.{arith}
-use Prim.Native.Nat.{◌-◌, ◌*◌, ◌≤◌}
-use mathlib.Core.Path.{◌≡◌, refl, ap}
+use mathlib.Core.Path.{refl, ap}
 use Rattle.listing_hex.proofs.hex_lines.Goals as goal
 
 pub returns-then-out-words : goal.returns-then-out-words

@@ -1,11 +1,9 @@
 -- `listing_input::plan_words` meets its contract.
 use Rattle.listing_input.proofs.Words.{words_on, words_done, plan_behind, plan_count, words_short}
-use Rattle.listing_lines.proofs.Placed.{Left, start, renamed, wrote, wrote_none, wrote_empty}
-use Rattle.listing_input.specs.Input.{words_of, plan_read}
-use borrow.Author.Rules.{rules}
+use Rattle.listing_lines.proofs.Placed.{start, renamed, wrote, wrote_none, wrote_empty}
 use lib.ListN.{length, drop, length-drop}
 use native.Mathlib.Omega.{arith}
-use Prim.Native.Nat.{◌+◌, ◌-◌, ◌*◌, ◌/◌, ◌≤◌}
+use Prim.Native.Nat.{◌-◌, ◌/◌}
 use mathlib.Core.Path.{◌≡◌, refl, ◌∙◌}
 use Rattle.listing_input.proofs.plan_words.Goals as goal
 

@@ -3,7 +3,6 @@ use Rattle.listing_input.proofs.Words.{count_first}
 use lib.ListN.{get_or-eq_default}
 use native.Mathlib.Omega.{arith}
 use mathlib.Core.Path.{sym, ◌∙◌}
-use borrow.Author.Rules.{rules}
 use Rattle.listing_input.proofs.share_count.Goals as goal
 
 pub overflow_cast-result : goal.overflow_cast-result

@@ -1,12 +1,10 @@
 -- `listing_parts::list_part` meets its contract.
 use borrow.Author.Tests.{leb-true, leb-false}
-use Rattle.listing_parts.proofs.Parts.{Going, going, going_on, gone_all, gone_full, in_part}
+use Rattle.listing_parts.proofs.Parts.{going, going_on, gone_all, gone_full, in_part}
 use Rattle.listing_parts.proofs.PlanWord.{lines_most}
 use Rattle.listing_parts.specs.Parts.{word_lines}
-use borrow.Author.Rules.{rules}
-use lib.ListN.{length, get_or}
+use lib.ListN.{get_or}
 use native.Mathlib.Omega.{arith}
-use Prim.Native.Nat.{◌-◌}
 use Rattle.listing_parts.proofs.list_part.Goals as goal
 
 pub loop-next-init : goal.loop-next-init

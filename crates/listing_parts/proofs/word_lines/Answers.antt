@@ -5,7 +5,6 @@ use Prim.Native.Nat.{◌≤◌}
 use native.Mathlib.Omega.{arith}
 use lib.ListN.{length}
 use lib.Seq.{length-take-le}
-use borrow.Author.Rules.{rules}
 use borrow.Author.Tests.{not-true, not-false}
 use Rattle.word.specs.Encoding.{plan_step}
 use Rattle.word.specs.Layout.{word_max, is_share_count}
@@ -30,7 +29,7 @@ plan_word-count-requires c =
     let share : is_share_count c.args.n ≡ true = sym c.is_share_count.ensures ∙ not-false _ c.if-not-is_share_count.false-raw in
     let few : length (words_for c.args.n (plan_step c.args.w)) ≤ word_max = let r = share_range c.args.n (share) in
     words_most c.args.n c.args.w r.0 r.1 in
-    let r = share_range c.args.n (share) in record { le_n = (omega (arith, r.0), r.1); w_in_bounds = few; }
+    let r = share_range c.args.n (share) in record { le_n = (omega (arith, r.0), r.1); w_in_bounds = few }
 
 pub slice_bounds-words-end : goal.slice_bounds-words-end
 slice_bounds-words-end c =

@@ -1,6 +1,5 @@
 -- `split_join::join_answer` meets its contract.
 use Rattle.split_join.specs.SplitJoin.{join_answer}
-use borrow.Author.Rules.{rules}
 use Rattle.split_join.proofs.join_answer.Goals as goal
 
 pub returns-then-not-is_share_count : goal.returns-then-not-is_share_count

@@ -1,12 +1,11 @@
 -- `split_join::mask` meets its contract: the loop keeps that the shares passed are the tape's words, taken out of the word (SplitJoin).
 use mathlib.Core.Path.{◌≡◌, refl, ap, ◌∙◌}
-use Prim.Native.Nat.{ℕ, ◌+◌, ◌-◌, ◌≤◌, ◌<◌}
+use Prim.Native.Nat.{ℕ, ◌+◌, ◌-◌, ◌<◌}
 use native.Mathlib.Omega.{arith}
 use lib.ListN.{length, take, length-set}
-use borrow.Author.Rules.{rules}
 use Rattle.bits.specs.Ops.{xor_w}
 use Rattle.split_join.specs.SplitJoin.{split_of}
-use Rattle.split_join.proofs.SplitJoin.{Masking, none_masked, one_masked, all_masked}
+use Rattle.split_join.proofs.SplitJoin.{none_masked, one_masked, all_masked}
 use Rattle.split_join.proofs.mask.Goals as goal
 
 pub loop-i-init : goal.loop-i-init

@@ -1,18 +1,12 @@
 -- The invariants and measures of the loops of `mask`.
-use mathlib.Core.Path.{◌≡◌, refl, ap, ◌∙◌}
-use Prim.Native.Nat.{ℕ, ◌+◌, ◌-◌, ◌≤◌, ◌<◌}
-use native.Mathlib.Omega.{arith}
-use lib.ListN.{length, take, length-set}
-use borrow.Author.Rules.{rules}
-use Rattle.bits.specs.Ops.{xor_w}
-use Rattle.split_join.specs.SplitJoin.{split_of}
-use Rattle.split_join.proofs.SplitJoin.{Masking, none_masked, one_masked, all_masked}
+use mathlib.Core.Path.{◌≡◌}
+use Prim.Native.Nat.{◌+◌, ◌-◌, ◌≤◌}
+use lib.ListN.{length}
+use Rattle.split_join.proofs.SplitJoin.{Masking}
 use Rattle.split_join.proofs.mask.Given as goal
-
 
 abbrev pub invariant-loop-i : goal.invariant-loop-i
 invariant-loop-i l = (l.i + 1 ≤ length l.initial.out) × (length l.out ≡ length l.initial.out) × Masking l.word l.tape l.initial.out l.i l.out l.first
-
 
 abbrev pub decreases-loop-i : goal.decreases-loop-i
 decreases-loop-i l = length l.initial.out - l.i

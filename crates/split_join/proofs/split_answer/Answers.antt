@@ -4,7 +4,6 @@ use native.Mathlib.Omega.{arith}
 use borrow.Author.Tests.{lt-ltb, le-ltb, not-false}
 use Rattle.word.proofs.Small.{share_range}
 use Rattle.split_join.specs.SplitJoin.{split_answer}
-use borrow.Author.Rules.{rules}
 use Rattle.split_join.proofs.split_answer.Goals as goal
 
 pub returns-then-not-is_share_count : goal.returns-then-not-is_share_count

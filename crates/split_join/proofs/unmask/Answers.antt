@@ -1,10 +1,9 @@
 -- `split_join::unmask` meets its contract: the loop keeps the exclusive-or of the shares passed.
-use mathlib.Core.Path.{◌≡◌, refl, ap, ◌∙◌}
-use Prim.Native.Nat.{ℕ, ◌-◌, ◌≤◌}
+use mathlib.Core.Path.{refl, ap, ◌∙◌}
+use Prim.Native.Nat.{ℕ}
 use native.Mathlib.Omega.{arith}
-use lib.ListN.{length, take, get_or}
+use lib.ListN.{get_or}
 use lib.Seq.{take_all}
-use borrow.Author.Rules.{rules}
 use Rattle.bits.specs.Ops.{xor_w}
 use Rattle.split_join.specs.SplitJoin.{xor_all}
 use Rattle.split_join.proofs.SplitJoin.{xor_next}

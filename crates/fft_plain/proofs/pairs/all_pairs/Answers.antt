@@ -1,11 +1,10 @@
 -- `fft_plain::pairs::all_pairs` meets its contract: the loop keeps what fft_numbers's PairLoop says of pair k, and that the pairs before it are done
 -- (Plainly).
 use mathlib.Core.Path.{sym, ◌∙◌}
-use Prim.Native.Nat.{◌-◌, ◌/◌}
 use native.Mathlib.Omega.{arith}
 use Rattle.fft_numbers.proofs.Powers.{pair_placed}
-use Rattle.fft_numbers.proofs.PairLoop.{Turn, first, next, last}
-use Rattle.fft_plain.proofs.Plainly.{PairsDone, none_done, one_done, all_done}
+use Rattle.fft_numbers.proofs.PairLoop.{first, next, last}
+use Rattle.fft_plain.proofs.Plainly.{none_done, one_done, all_done}
 use Rattle.fft_plain.proofs.pairs.all_pairs.Goals as goal
 
 pub overflow_mul-blocks : goal.overflow_mul-blocks

@@ -3,7 +3,6 @@ use mathlib.Core.Path.{ap, ◌∙◌}
 use Prim.Native.Nat.{ℕ, ◌+◌}
 use native.Mathlib.Omega.{arith}
 use lib.ListN.{get_or, length-set}
-use borrow.Author.Rules.{rules}
 use Rattle.binary64.specs.Sum.{sum}
 use Rattle.fft_numbers.specs.Acts.{flipped}
 use Rattle.fft_plain.proofs.Plainly.{pair_done}

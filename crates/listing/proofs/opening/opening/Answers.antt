@@ -1,6 +1,5 @@
 -- `listing::opening::opening` meets its contract.
 use native.Mathlib.Omega.{arith}
-use borrow.Author.Rules.{rules}
 use Rattle.listing.proofs.Piecewise.{opening_taken, opening_refused, count_most}
 use Rattle.listing.proofs.opening.opening.Goals as goal
 

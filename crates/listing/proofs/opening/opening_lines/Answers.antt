@@ -2,7 +2,6 @@
 use mathlib.Core.Path.{refl, sym}
 use native.Mathlib.Omega.{arith}
 use lib.Seq.{length-take-le}
-use borrow.Author.Rules.{rules}
 use Rattle.listing_lines.proofs.Placed.{appends_long, line_taken}
 use Rattle.listing.proofs.Opened.{first_ends, opened, opening_lines_most}
 use Rattle.listing.proofs.opening.opening_lines.Goals as goal

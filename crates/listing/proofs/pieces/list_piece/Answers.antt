@@ -3,7 +3,6 @@ use Rattle.listing_parts.proofs.Parts.{part_ends}
 use Rattle.listing.proofs.Piecewise.{listed_most, first_piece, next_piece}
 use Rattle.listing_lines.proofs.Placed.{counts, all_given, all_taken}
 use native.Mathlib.Omega.{arith}
-use borrow.Author.Rules.{rules}
 use Rattle.listing.proofs.pieces.list_piece.Goals as goal
 
 pub returns-then-from-eq0 : goal.returns-then-from-eq0

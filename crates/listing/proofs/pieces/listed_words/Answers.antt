@@ -1,7 +1,6 @@
 -- `listing::pieces::listed_words` meets its contract.
 use Rattle.listing.proofs.Piecewise.{listed_taken, listed_none}
 use Rattle.listing_lines.proofs.Placed.{wrote_empty}
-use borrow.Author.Rules.{rules}
 use Rattle.listing.proofs.pieces.listed_words.Goals as goal
 
 pub returns-then-list_answer-ne0 : goal.returns-then-list_answer-ne0

@@ -1,5 +1,4 @@
 -- `listing_lines::line::digits` meets its contract: the digits before the last are written by the call of itself, then the last.
-use lib.ListN.{length}
 use mathlib.Core.List.{[], ◌∷◌}
 use mathlib.Core.Path.{refl}
 use native.Mathlib.Omega.{arith}

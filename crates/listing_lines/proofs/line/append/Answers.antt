@@ -1,11 +1,9 @@
 -- `listing_lines::line::append` meets its contract.
 use native.Mathlib.Nat.{add-zero, add_assoc}
-use Rattle.listing_lines.proofs.Placed.{Left, start, next, whole, renamed}
-use borrow.Author.Rules.{rules}
-use lib.ListN.{length, drop, drop_of_length-le}
+use Rattle.listing_lines.proofs.Placed.{start, next, whole, renamed}
+use lib.ListN.{drop_of_length-le}
 use native.Mathlib.Omega.{arith}
-use Prim.Native.Nat.{◌+◌, ◌-◌, ◌≤◌}
-use mathlib.Core.Path.{◌≡◌, refl}
+use mathlib.Core.Path.{refl}
 use Rattle.listing_lines.proofs.line.append.Goals as goal
 
 pub loop-i-init : goal.loop-i-init

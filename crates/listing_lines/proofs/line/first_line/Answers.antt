@@ -8,9 +8,7 @@ use Prim.Native.Nat.{ℕ}
 use mathlib.Core.List.{List, [], ◌∷◌, ◌++◌}
 use mathlib.Core.Path.{sym}
 use Rattle.listing_lines.specs.Lines.{decimal, first_line}
-use borrow.Author.Rules.{rules}
 use Rattle.listing_lines.proofs.line.first_line.Goals as goal
-
 
 abbrev label_shares : List ℕ
 label_shares = 115 ∷ 104 ∷ 97 ∷ 114 ∷ 101 ∷ 115 ∷ 32 ∷ []
@@ -20,6 +18,7 @@ label_words = 32 ∷ 119 ∷ 111 ∷ 114 ∷ 100 ∷ 115 ∷ 32 ∷ []
 
 abbrev label_tape : List ℕ
 label_tape = 32 ∷ 116 ∷ 97 ∷ 112 ∷ 101 ∷ 32 ∷ []
+
 pub labelled-at-requires-2 : goal.labelled-at-requires-2
 labelled-at-requires-2 c =
     omega (arith, labelled_ends label_shares c.args.n c.labelled-at.ensures, appends_long c.labelled-at.ensures)

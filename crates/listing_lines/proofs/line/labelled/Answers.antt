@@ -7,7 +7,6 @@ use mathlib.Core.List.{[], append-nil}
 use lib.ListN.{length}
 use native.Mathlib.Omega.{arith}
 use mathlib.Core.Path.{sym, ap}
-use borrow.Author.Rules.{rules}
 use Rattle.listing_lines.proofs.line.labelled.Goals as goal
 
 pub digits-requires : goal.digits-requires

@@ -1,6 +1,5 @@
 -- `listing_lines::line::put_text` meets its contract.
 use Rattle.listing_lines.proofs.Placed.{wrote, wrote_none}
-use borrow.Author.Rules.{rules}
 use Rattle.listing_lines.proofs.line.put_text.Goals as goal
 
 pub returns-then-out-text : goal.returns-then-out-text

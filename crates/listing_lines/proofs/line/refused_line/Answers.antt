@@ -8,12 +8,11 @@ use native.Mathlib.Omega.{arith}
 use Prim.Native.Nat.{ℕ}
 use mathlib.Core.List.{List, [], ◌∷◌}
 use mathlib.Core.Path.{sym}
-use borrow.Author.Rules.{rules}
 use Rattle.listing_lines.proofs.line.refused_line.Goals as goal
-
 
 abbrev label : List ℕ
 label = 114 ∷ 101 ∷ 102 ∷ 117 ∷ 115 ∷ 101 ∷ 100 ∷ 32 ∷ []
+
 pub append-at-requires : goal.append-at-requires
 append-at-requires c =
     omega (arith, labelled_ends label c.args.number c.labelled-at.ensures, appends_long c.labelled-at.ensures)
