@@ -61,7 +61,12 @@ struct Input {
 }
 
 // The listing of what was read, where it is whole.
-fn list_read<W: Write + AsRawFd + Copy>(out: W, buffer: &[u8], read: Input, sent: &mut usize) -> bool
+fn list_read<W: Write + AsRawFd + Copy>(
+    out: W,
+    buffer: &[u8],
+    read: Input,
+    sent: &mut usize,
+) -> bool
     requires fd_value { W.raw_fd out ≡ Some standard_output }
     requires prefix_len { IsPrefixLen read.count buffer.now }
     requires whole { Whole read.count read.last }

@@ -82,8 +82,15 @@ fn all(op: u64) -> Tally {
 }
 
 fn report(rt: &HostRuntime, name: &str, t: Tally) -> io::Result<()> {
-    let Tally { same, apart, skipped, different } = t;
-    println!(rt; "{name}: as IEEE 754 {same}, apart from it as the documents say {apart}, skipped {skipped}, different {different}")
+    let Tally {
+        same,
+        apart,
+        skipped,
+        different,
+    } = t;
+    println!(rt;
+        "{name}: as IEEE 754 {same}, apart from it as the documents say {apart}, skipped {skipped}, different {different}"
+    )
 }
 
 fn main(rt: HostRuntime) -> io::Result<()> {

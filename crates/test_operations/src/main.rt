@@ -162,7 +162,12 @@ fn main(rt: HostRuntime) -> io::Result<()> {
     let mut masks = [0u64; 8];
     test_words::fill(99, &mut masks);
     for n in 2..9usize {
-        line(&rt, n, edges_off(n, &tape, &masks), drawn_off(n, &tape, &masks))?;
+        line(
+            &rt,
+            n,
+            edges_off(n, &tape, &masks),
+            drawn_off(n, &tape, &masks),
+        )?;
     }
     Ok(())
 }

@@ -76,7 +76,9 @@ fn line(
     plain: u64,
     left: u64,
 ) -> io::Result<()> {
-    println!(rt; "n {n} words {words} tape {tape} cells that differ {split} registers that differ {plain} scratch cells left {left}")
+    println!(rt;
+        "n {n} words {words} tape {tape} cells that differ {split} registers that differ {plain} scratch cells left {left}"
+    )
 }
 
 // The cells that differ from runs in a row over the same start.
@@ -103,7 +105,13 @@ fn plain_off(n: usize, whole: &[u64]) -> u64 {
 }
 
 // One share count: a run in a go, the same in a row, and the plan unsplit.
-fn compare(rt: &HostRuntime, n: usize, program: &[u32], tape: &[u64], words: usize) -> io::Result<()> {
+fn compare(
+    rt: &HostRuntime,
+    n: usize,
+    program: &[u32],
+    tape: &[u64],
+    words: usize,
+) -> io::Result<()> {
     let mut whole = [0u64; 512];
     test_words::fill(n as u64, &mut whole);
     let answer = share_run::run::share_run(n, program, 0, tape, 0, words, &mut whole);

@@ -1,7 +1,6 @@
 // Words at random for the test programs, by a shift register of Marsaglia's. They are test input: no promise rests on which words these are.
 #![tactic(auto)]
 
-
 // One more word.
 pub fn next(seed: u64) -> u64 {
     let a = seed ^ (seed << 13);

@@ -27,8 +27,7 @@ loop-out-smaller g c = goes_on c.list_piece-piece.ensures c.if-piece.false (omeg
 
 pub loop-out-preserved : goal.loop-out-preserved
 loop-out-preserved g c =
-    let sent : c.hand_on.new.sent ≡ c.loop-out.sent + length (take c.list_piece-piece.result.bytes c.list_piece-piece.new.out) = rw c.if-not-hand_on.false at c.hand_on.ensures in
-    (
+    let sent : c.hand_on.new.sent ≡ c.loop-out.sent + length (take c.list_piece-piece.result.bytes c.list_piece-piece.new.out) = rw c.if-not-hand_on.false at c.hand_on.ensures in (
       c.loop-out.invariant.0 ∙ sym (as_long c.list_piece-piece.ensures.text),
       handing.goes_on c.loop-out.invariant.1 c.list_piece-piece.ensures (omega (arith, c.loop-out.invariant.0)) sent,
     )
