@@ -110,7 +110,9 @@ pub fn sixteen(
 }
 
 // A SHR word whose shift number is 0 with q in its place: rows that differ in a number call this with it. As `linear(w + q, ..)` the compiler
-// would take the word apart at run time.
+// would take the word apart at run time. A function of its own in the machine code too: a shift and a SPREAD together become a test of one bit, which leaves
+// the share in its register for the next share to be written over.
+#[inline(never)]
 pub fn shifted(w: u32, q: u32, i: usize, cells: &mut [u64])
     requires { (kind_of w ≡ 6) × (w % 512 ≡ 0) × (q < 64) × (i < 8) × (length cells.old ≡ 512) }
     ensures { cells.new ≡ on_share i (w + q) cells.old }

@@ -182,7 +182,8 @@ fn on_share(k: usize, i: usize, cells: &mut [u64])
     }
 }
 
-// Run k on each of n shares.
+// Run k on each of n shares. Part of its caller in the machine code, where other words come between those of two shares.
+#[inline(always)]
 pub(crate) fn run(k: usize, n: usize, cells: &mut [u64])
     requires { (k < 77) × (n ≤ 8) × (length cells.old ≡ 512) }
     ensures { cells.new ≡ share_by_share (shares n) (get_or runs k last_run) cells.old }
