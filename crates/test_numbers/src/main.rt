@@ -81,16 +81,17 @@ fn all(op: u64) -> Tally {
     t
 }
 
+fn counted(rt: &HostRuntime, label: &str, count: u64) -> io::Result<()> {
+    print!(rt; "{label}{count}")
+}
+
 fn report(rt: &HostRuntime, name: &str, t: Tally) -> io::Result<()> {
-    let Tally {
-        same,
-        apart,
-        skipped,
-        different,
-    } = t;
-    println!(rt;
-        "{name}: as IEEE 754 {same}, apart from it as the documents say {apart}, skipped {skipped}, different {different}"
-    )
+    print!(rt; "{name}")?;
+    counted(rt, ": as IEEE 754 ", t.same)?;
+    counted(rt, ", apart from it as the documents say ", t.apart)?;
+    counted(rt, ", skipped ", t.skipped)?;
+    counted(rt, ", different ", t.different)?;
+    println!(rt)
 }
 
 fn main(rt: HostRuntime) -> io::Result<()> {

@@ -46,6 +46,11 @@ fn join_all(cells: &[u64], n: usize, out: &mut [u64]) {
     }
 }
 
+// A label and a number.
+fn noted(rt: &HostRuntime, label: &str, n: u64) -> io::Result<()> {
+    print!(rt; "{label}{n}")
+}
+
 // Whether a cell is AND's scratch for n shares: y and z from 256 and 264 on, t and u at 272 and 273.
 fn is_scratch(at: usize, n: usize) -> bool {
     if at < 256 {
@@ -76,9 +81,13 @@ fn line(
     plain: u64,
     left: u64,
 ) -> io::Result<()> {
-    println!(rt;
-        "n {n} words {words} tape {tape} cells that differ {split} registers that differ {plain} scratch cells left {left}"
-    )
+    noted(rt, "n ", n as u64)?;
+    noted(rt, " words ", words as u64)?;
+    noted(rt, " tape ", tape as u64)?;
+    noted(rt, " cells that differ ", split)?;
+    noted(rt, " registers that differ ", plain)?;
+    noted(rt, " scratch cells left ", left)?;
+    println!(rt)
 }
 
 // The cells that differ from runs in a row over the same start.
