@@ -15,7 +15,7 @@ from pathlib import Path
 CRATES = Path(__file__).resolve().parent.parent / "crates"
 DEMANDS = ["measure", "translate", "plain_run", "share_run", "one_share_step"]
 OTHERS = ["sharelist/src/main.rt", "checks/src/reader.rt", "compiled_order/src/calls.rt"]
-USE = re.compile(r"^(?:ghost )?use Rattle·(\w+?)(?:·specs)?\.specs\.([\w.]+?)(?:\.\{(.*)\}| as (\S+?));?$", re.M)
+USE = re.compile(r"^(?:ghost )?use Rattle\.(\w+)\.specs\.([\w.]+?)(?:\.\{(.*)\}| as (\S+?));?$", re.M)
 DEFINED = re.compile(r"(?:(?:abbrev|unfoldable|pub) )+(?:record |data )?([^\s:]+)")
 sections, lines_of, scopes = {}, {}, {}  # by crate, file and name; scopes by crate and file
 
@@ -28,7 +28,7 @@ def imported(text):
 
 def cited(text, scope):
     """The definitions that a text names, by themselves or behind the alias of a file."""
-    for head, _, tail in (word.partition(".") for word in re.findall(r"[^\s(){}\[\];,⌜⌝]+", text)):
+    for head, _, tail in (word.partition(".") for word in re.findall(r"[^\s(){}\[\];,]+", text)):
         if head in scope: yield scope[head] if scope[head][2] else scope[head][:2] + (tail,)
 
 

@@ -2,7 +2,7 @@
 
 From the record Claims it goes by names through the types of fields and through `abbrev` types, in crates/*/specs. Records that hold data alone are left
 out. It asks for
-- each field: a definition `name : TYPE`, `name = h .field`, in a section over `(h : RECORD ..)`. The prover holds TYPE to the field's own type.
+- each field: a definition `name : TYPE`, `name = h.field`, in a section over `(h : RECORD ..)`. The prover holds TYPE to the field's own type.
 - each record that stands left of an arrow, as a condition: a definition whose type ends in `→ RECORD ..` and whose value is `record { .. }`.
 - each `abbrev` type: not cited there, and so written out; of one with several clauses the left side of each clause.
 """
@@ -11,7 +11,7 @@ import sys
 from pathlib import Path
 
 CRATES = Path(__file__).resolve().parent.parent / "crates"
-USE = re.compile(r"^use Rattle·(\w+?)(?:·specs)?\.specs\.(\w+)\.\{(.*)\}", re.M)
+USE = re.compile(r"^use Rattle\.(\w+)\.specs\.(\w+)\.\{(.*)\}", re.M)
 
 
 def parsed(path):
@@ -66,7 +66,7 @@ for path in CRATES.glob("lubewon/proofs/stated/*.antt"):
         whole, over = whole + line + "\n", [o for o in over if o[0] < deep]
         if m := re.match(r"module _ .*\((\S+) : (\S+)[^()]*\) where", line): over.append((deep, m[1], scope.get(m[2], ("", "")) + (m[2],)))
         elif m := re.match(r"(\S+) : (.*)", line): sort = m.groups()
-        elif m := re.match(r"(\S+) = (\S+) \.(\S+)$", line): shown |= {o[2] + (m[3],) for o in over if o[1] == m[2] and sort[0] == m[1]}
+        elif m := re.match(r"(\S+) = ([^\s.]+)\.([^\s.]+)$", line): shown |= {o[2] + (m[3],) for o in over if o[1] == m[2] and sort[0] == m[1]}
         elif line.startswith(sort[0] + " ") and "= record {" in line: made |= {scope.get(w, ("", "")) + (w,) for w in sort[1].split("→")[-1].split()[:1]}
 
 kept = [k for k in reached if k in records and not data(k)]

@@ -96,7 +96,7 @@ toward_zero_is s = record { same = div_same; whole = div-one; next = λ a b. le-
 pub ties_to_even_is : (s : Bool) → WholeRule (ties_to_even s)
 ties_to_even_is s = record { same = closest_same; whole = λ n. unfold round_ne in round_none n; next = closest_up }
 
--- what the roundings do: `truncate` by towardZero, `nearest` by tiesToEven, `floor` by towardNegative (FloorMeaning)
+-- what the roundings do: `truncate` by toward_zero, `nearest` by ties_to_even, `floor` by toward_negative (FloorMeaning)
 abbrev pub rounded_by : (ℕ → ℕ → ℕ) → ℕ → ℕ
 rounded_by rule a = cond (leb 1075 (expo a)) a (whole_number (sign a) (rule (magnitude a) (2 ^ 1074)))
 

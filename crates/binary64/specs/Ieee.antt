@@ -40,7 +40,7 @@ SumIsIeee =
     (a b : ℕ) → a < 2 ^ 64 → b < 2 ^ 64 → ZeroOrNormal a → ZeroOrNormal b → ZeroOrLarge 52 (exact_sum a b)
     → sum a b ≡ to_bits binary64 (add binary64 (of_bits binary64 a) (of_bits binary64 b))
 
--- IEEE 754's round-to-integral operations, which the library does not have, from the text of 754-2019: a number becomes the integral value that the rule
+-- IEEE 754's round-to-integral operations, from the text of 754-2019: a number becomes the integral value that the rule
 -- chooses by its sign (true where the sign bit is set) and its magnitude, m · 2^e, which is the quotient of m * up e by down e (5.9), with the operand's sign where that is a
 -- zero too (6.3); an infinity comes back as it is and a NaN stays one.
 abbrev pub round_to_integral : (Bool → ℕ → ℕ → ℕ) → Float → Float

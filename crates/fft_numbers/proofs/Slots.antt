@@ -1,6 +1,6 @@
 -- What acts do to all numbers: acts on shares keep every number n shares of words (`acts_shared`); they go by no more tape than they take
 -- (`act_part`); and over paired tapes they keep agreement in a share (`act_pairing`). Rests on the operations' results (result_words,
--- result-size, result-part) and, for agreement, on masking's Kept.
+-- result_size, result_part) and, for agreement, on masking's Kept.
 use mathlib.Core.Path.{◌≡◌, refl, sym, ap, ◌∙◌}
 use mathlib.Core.Bool.{Bool, true, false, cond}
 use mathlib.Core.List.{List, [], ◌∷◌}

@@ -16,7 +16,7 @@ use checks::answer::Answer;
 
 pub mod in_place;
 
-// The product of shared operands x and y: its shares in `result`. Turned down with 1 where the shares are not 2 to 8, 4 where a slice has the
+// The product of shared operands x and y: its shares in `res`. Turned down with 1 where the shares are not 2 to 8, 4 where a slice has the
 // wrong length, 6 where the tape is too short; all is then as it was. `work` has 512 words, zeros afterwards. What holds of it is `Masked`.
 pub fn product(x: &[u64], y: &[u64], res: &mut [u64], work: &mut [u64], tape: &[u64]) -> Answer
     ensures answer { result ≡ call_answer product_plan x.now y.now res.old work.old tape.now }

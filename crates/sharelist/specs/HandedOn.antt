@@ -1,6 +1,6 @@
--- Which bytes `hand_on` is given, and in which order. No contract of the kit says what becomes of bytes that are written, so this is said of its
--- arguments: `sent` counts the bytes that it was given before. That it gives them to the kit's `write_all`, and that nobody else sets the count, is
--- read off the program.
+-- Which bytes `hand_on` is given, and in which order. No contract of the standard library says what becomes of bytes that are written to a stream, so
+-- this is said of its arguments: `sent` counts the bytes that it was given before. That it gives them to `write_all`, and that nobody else sets the
+-- count, is read off the program.
 use Rattle.std.specs.Prelude.{◌≡◌, Bool, cond, true, List, ℕ, ◌+◌, length, take, drop, ℤ, pos}
 
 -- POSIX's number of standard output

@@ -1,7 +1,7 @@
 -- When the bytes read from standard input are enough to list it by: document 01, "more than 8,193 bytes or a broken last word prints
 -- `refused 2`". A read's own answer is what POSIX says of one that has room: how many bytes it gave, 0 at the end of the input, negative where it
--- failed. The kit's `read` bounds the count and says no more: that an answer is the read's own, and the bytes those of the input, is read off
--- `read_more`.
+-- failed. The standard library's `read` bounds the count and says no more of a stream: that an answer is the read's own, and the bytes those of the
+-- input, is read off `read_more`.
 use Rattle.std.specs.Prelude.{◌≡◌, ◌⊎◌, List, ℕ, ◌+◌, ◌-◌, ◌<◌, length, take, ℤ, pos, negsuc, ◌<ℤ◌}
 use Rattle.io.specs.Counts.{clamp_len}
 use Rattle.listing_input.specs.Input.{input_max}
