@@ -12,6 +12,7 @@ use word::step_word::StepWord;
 pub mod rules;
 
 // The step of a plan's word, or Bad. Every kind has a cell d, so a d that is no register is enough for Bad.
+#[tactic(auto, using(word::proofs::Together::no_register, word::proofs::Together::named_dest))]
 pub fn plan_step(w: StepWord) -> Decoded
     ensures { result ≡ plan_step w.bits }
 {
