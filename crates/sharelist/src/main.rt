@@ -122,11 +122,12 @@ fn main(rt: HostRuntime) -> std::io::Result<()> {
     let read = read_input(rt.stdin(), &mut input);
     let last = read.last;
     if last < 0 {
-        return eprintln!(rt; "sharelist: cannot read");
+        let _ = eprintln!(rt; "sharelist: cannot read");
+        return Ok(());
     }
     let mut sent = 0;
     if !list_read(rt.stdout(), &input, read, &mut sent) {
-        return eprintln!(rt; "sharelist: cannot write");
+        let _ = eprintln!(rt; "sharelist: cannot write");
     }
     Ok(())
 }
