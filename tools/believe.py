@@ -14,7 +14,7 @@ from pathlib import Path
 
 CRATES = Path(__file__).resolve().parent.parent / "crates"
 DEMANDS = ["measure", "translate", "plain_run", "share_run", "one_share_step"]
-OTHERS = ["sharelist/src/main.rt", "checks/src/reader.rt", "compiled_order/src/calls.rt"]
+OTHERS = ["sharelist/src/main.rt", "checks/src/reader.rt", "compiled_order/src/lib.rt"]
 USE = re.compile(r"^(?:ghost )?use Rattle\.(\w+)\.specs\.([\w.]+?)(?:\.\{(.*)\}| as (\S+?));?$", re.M)
 DEFINED = re.compile(r"(?:(?:abbrev|unfoldable|pub) )+(?:record |data )?([^\s:]+)")
 sections, lines_of, scopes = {}, {}, {}  # by crate, file and name; scopes by crate and file
@@ -60,9 +60,10 @@ def reached(starts):
 
 
 def contracts(paths, names=None):
-    """What the contracts in these files cite: of all functions, or of those with these names."""
+    """What the contracts in these files cite: of all functions, with the plan of an impl, or of those with these names."""
     for text in map(Path.read_text, paths):
-        for name, contract in re.findall(r"\bfn (\w+)(.*?)^\{", text, re.M | re.S):
+        plans = [("", plan) for plan in re.findall(r"ghost plan = \{(.*?)\}", text)]
+        for name, contract in re.findall(r"\bfn (\w+)(.*?)^\{", text, re.M | re.S) + plans:
             if not names or name.removeprefix("lubewon_") in names: yield from cited(contract, imported(text))
 
 

@@ -13,7 +13,7 @@ import shutil
 import sys
 
 from plan_cut import ROOT, Plan, refuse
-from plan_text import parts, piece_parts
+from plan_text import inner, parts, piece_parts
 
 TEXTS = os.path.join(ROOT, "tools", "compiled")
 
@@ -33,19 +33,16 @@ def crates_of(plan):
     """the files of the plan's crate, and of those of its runs where it is long: the texts with the plan's parts put in"""
     first, *later = plan.pieces
     common = {path: text for path, text in texts(TEXTS).items() if path.split(os.sep)[0] in ("src", "specs", "proofs")}
-    specs = {path: common.pop(path) for path in list(common) if path.startswith("specs/")}
+    cut_up = {"specs/inner/Runs.antt": common.pop("specs/inner/Runs.antt")} | {path: common[path] for path in ("specs/Lib.antt", "specs/inner.antt")}
     runs = {path: common.pop(path) for path in list(common) if path.startswith(("src/runs", "proofs/runs/"))}
-    of_one = texts(os.path.join(TEXTS, "of_one")) if plan.operands == 1 else {}
     own = texts(os.path.join(TEXTS, "own")) if plan.own else {}
-    with_add = texts(os.path.join(TEXTS, "with_add")) if plan.adds() else {}
-    put_in = parts(plan) | {"OF_ONE": of_one.pop("src/calls.rt", ""), "OF_ONE_IN_PLACE": of_one.pop("src/in_place.rt", "")}
-    calls, runs = common | of_one | own | with_add, filled(runs, piece_parts(plan, first)) | piece_files(plan, first)
+    calls, runs = common | own, filled(runs, piece_parts(plan, first)) | piece_files(plan, first)
     if plan.long:
         crates = {piece.crate: piece_files(plan, piece) for piece in reversed(later)} | {first.crate: runs | texts(os.path.join(TEXTS, "long")), plan.crate: calls}
-        crates[later[-1].crate] |= specs
+        crates[later[-1].crate] |= cut_up
     else:
-        crates = {plan.crate: specs | runs | calls}
-    return {crate: finished(files, put_in | {"CRATE": crate}) for crate, files in crates.items()}
+        crates = {plan.crate: cut_up | runs | calls}
+    return {crate: finished(files, parts(plan) | inner(files) | {"CRATE": crate}) for crate, files in crates.items()}
 
 
 def piece_files(plan, piece):
@@ -57,7 +54,7 @@ def piece_files(plan, piece):
 
 def filled(files, put_in):
     for name, part in put_in.items():
-        files = {path: text.replace(f"@{name}@", part) for path, text in files.items()}
+        files = {path.replace(f"@{name}@", part): text.replace(f"@{name}@", part) for path, text in files.items()}
     return files
 
 

@@ -4,6 +4,11 @@ import re
 
 WRITTEN = "Written by tools/compile_plan.py: change the plan or the compiler, not this file."
 WIDTH = 100  # of a line of code, as rt fmt breaks it
+DONE = "        and_done(w, n, tape, t, cells)"
+DONE_BY_KIND = """        if w >> StepWord::KIND_AT == StepWord::AND {
+            return and_done(w, n, tape, t, cells);
+        }
+        add_done(w, n, tape, t, cells)"""
 REST = "c.in_default.in_default-own.rest"  # that k is none of a match's keys
 CITED = {  # what answers may cite, by module
     "mathlib.Core.Path": "◌≡◌ refl ap ◌∙◌",
@@ -21,22 +26,19 @@ CITED = {  # what answers may cite, by module
 def parts(plan):
     rows = plan.rows
     return {
-        "WRITTEN": WRITTEN, "CRATE": plan.crate, "TITLE": plan.title, "THIS": plan.title[0].lower() + plan.title[1:], "MODULE": plan.module,
+        "WRITTEN": WRITTEN, "CRATE": plan.crate, "TITLE": plan.title, "NAME": plan.name, "MODULE": plan.module,
         "PLAN": plan.plan, "UNFOLD": "".join(" " + name for name in plan.unfold), "UNFOLD_NAMES": "".join(", " + name for name in plan.unfold),
         "GATES": str(len(plan.gates)), "UNITS": str(plan.units), "WORDS": listed(plan.words),
-        "PUB": "" if plan.operands == 1 else "pub ", "ZEROS": ", zeros_for" if plan.operands == 1 else "",
-        "ONE_OPERAND": "use masked_call::one_operand::{NONE, at_most_eight};\n" if plan.operands == 1 else "",
         "RUNS_SPEC": f"Rattle.{plan.pieces[-1].crate}.specs.inner.Runs",  # where the definition of the runs is: in the crate of the last piece
-        "BELOW": f"(k < {len(plan.runs)}) × " if rows else "", "SHOW_BELOW": "omega arith, " if rows else "", "SIZE": "2" if rows else "1",
+        "BELOW": f"(k < {len(plan.runs)}) × " if rows else "",
     } | runs_at(plan) | gate_kind(plan) | lists(plan) | gate_code(plan) | gate_proof(plan)
 
 
 def runs_at(plan):
     """the runs of a long plan are in crates of their own"""
     if not plan.long:
-        return {"RUNS": "runs", "RUNS_FOR": "pub(crate)", "RUNS_MOD": "mod runs;\n",
-                "INNER": ", and it cut at its ANDs and ADDs (inner), which no contract cites", "INNER_MOD": "pub mod inner\n"}
-    return {"RUNS": plan.pieces[0].crate, "RUNS_FOR": "pub", "RUNS_MOD": "", "INNER": "", "INNER_MOD": ""}
+        return {"RUNS": "runs", "RUNS_FOR": "pub(crate)", "RUNS_MOD": "mod runs;\n\n", "RUNS_USE": ""}
+    return {"RUNS": plan.pieces[0].crate, "RUNS_FOR": "pub", "RUNS_MOD": "", "RUNS_USE": f"use {plan.pieces[0].crate}::runs;\n"}
 
 
 def piece_parts(plan, piece):
@@ -45,16 +47,23 @@ def piece_parts(plan, piece):
             "AT": str(piece.at)} | code(plan, piece) | on_share_proof(plan, piece)
 
 
+def inner(files):
+    """what the file of a crate's inner names says, by the files that it has"""
+    names = {"Runs": "the plan cut at its ANDs and ADDs", "Laws": "that the plan is these parts, and the laws that masked_plan asks for"}
+    found = {name: text for name, text in names.items() if f"specs/inner/{name}.antt" in files}
+    head = "; ".join(f"{text} ({name})" for name, text in found.items())
+    return {"INNER": f"-- {head[:1].upper()}{head[1:]}.\n" + "".join(f"pub mod {name}\n" for name in found)}
+
+
 def gate_kind(plan):
     """a plan without ADD links none"""
-    runs = f"use {plan.pieces[0].crate if plan.long else 'crate'}::runs::{{gate, run}};\n"
     if not plan.adds():
-        return {"GATE_DONE": "and_done", "GATE_KIND": "(λ k. eqb k 3)", "KIND_USE": "", "KIND_EQB": "eqb, ",
-                "SHOW_KIND": "eqb→eq _ 3 G.1", "SHOW_USE": "use lib.Dec.{eqb→eq}\n", "GATE_MOD": "",
-                "GATE_USE": f"{runs}use gates::gates::and_done;\n"}
-    return {"GATE_DONE": "gate_done", "GATE_KIND": "is_gate", "KIND_USE": "use Rattle.gates.specs.inner.PlanWords.{is_gate}\n",
-            "KIND_EQB": "", "SHOW_KIND": "G.1", "SHOW_USE": "", "GATE_MOD": "mod and_or_add;\n",
-            "GATE_USE": f"use crate::and_or_add::gate_done;\n{runs}"}
+        return {"GATE_KIND": "(λ k. eqb k 3)", "KIND_GHOST": "ghost use Rattle.std.specs.Prelude.{eqb};", "KIND_USE": "", "KIND_EQB": "eqb, ", "WORD_USE": "",
+                "DONE_USE": "and_done", "DONE_CODE": DONE, "GATE_DONE": "and_done", "SHOW_USE": "use lib.Dec.{eqb→eq}\n", "SHOW_KIND": "eqb→eq _ 3 c.requires.good_plan_word.4"}
+    return {"GATE_KIND": "is_gate", "KIND_GHOST": "ghost use Rattle.gates.specs.inner.PlanWords.{is_gate};",
+            "KIND_USE": "use Rattle.gates.specs.inner.PlanWords.{is_gate}\n", "KIND_EQB": "", "WORD_USE": "use word::step_word::StepWord;\n",
+            "DONE_USE": "{add_done, and_done}", "DONE_CODE": DONE_BY_KIND, "GATE_DONE": "add_done",
+            "SHOW_USE": "use Rattle.gates.proofs.ByField.{not_and}\n", "SHOW_KIND": "not_and _ c.requires.good_plan_word.4 c.if-w-eq-AND.false"}
 
 
 def listed(words):

@@ -187,9 +187,9 @@ pub record Fits (n : ℕ) (stored out : List ℕ) : Type 0 where
   pub count : n ≤ 8
   pub room : length stored < length out
 
-pub fits : (n : ℕ) (stored out : List ℕ) (a : Answer) → a ≡ add_head_answer n stored (length out) → a.number ≡ 0 → Fits n stored out
-fits n stored out a e h =
-    let z : (add_head_answer n stored (length out)).number ≡ 0 = sym (ap (λ (x : Answer). x.number) e) ∙ h in
+pub fits : (n : ℕ) (stored out : List ℕ) (words used : ℕ) → done words used ≡ add_head_answer n stored (length out) → Fits n stored out
+fits n stored out words used e =
+    let z : (add_head_answer n stored (length out)).number ≡ 0 = sym (ap (λ (x : Answer). x.number) e) in
     record {
       count = (in_range n (p₁ n stored out z).0).1;
       room = omega (arith, ltb-false (length out) (1 + length stored) (p₄ n stored out z).0);

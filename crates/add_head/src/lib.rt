@@ -3,30 +3,32 @@
 
 ghost use Rattle.std.specs.Prelude.{◌≡◌, ◌∷◌, ◌++◌, ◌≤◌, ◌<◌, ◌+◌, length, drop};
 ghost use Rattle.word.specs.Head.{head_word};
+ghost use Rattle.checks.specs.Answers.{answer_of};
 ghost use Rattle.add_head.specs.Conversion.{add_head_answer, add_head_out};
 ghost use Rattle.add_head.specs.Converts.{Converts};
 
-use checks::answer::Answer;
-use checks::program::check_program;
+use checks::check::{ProgramRule, check};
+use checks::refusal::{Counts, Refusal};
 use checks::share_count::is_share_count;
 use share_machine::rands::rands;
 use word::step_word::StepWord;
 
 // The answer to a stored program and the room for its conversion: the turn-downs in number order, and the counts.
-fn answer_for(n: usize, stored: &[u32], room: usize) -> Answer
-    ensures { result ≡ add_head_answer n stored.now room }
+#[tactic(auto, unfolding(checks::specs::Answers::program_checked))]
+fn answer_for(n: usize, stored: &[u32], room: usize) -> Result<Counts, Refusal>
+    ensures { answer_of result ≡ add_head_answer n stored.now room }
 {
     if !is_share_count(n) {
-        return Answer::refused(1);
+        return Err(Refusal::ShareCount);
     }
-    let checked = check_program(stored);
-    if checked.number != 0 {
-        return checked;
-    }
+    check::<ProgramRule>(stored)?;
     if room <= stored.len() {
-        return Answer::refused(4);
+        return Err(Refusal::Length);
     }
-    Answer::done(1 + stored.len(), rands(stored))
+    Ok(Counts {
+        words: 1 + stored.len(),
+        tape: rands(stored),
+    })
 }
 
 // The head for n shares, and then the stored words.
@@ -35,24 +37,18 @@ fn put_before(n: u8, stored: &[u32], out: &mut [u32])
     ensures { out.new ≡ (head_word n ∷ stored.now) ++ drop (1 + length stored.now) out.old }
 {
     out[0] = StepWord::head(n);
-    let mut i = 0;
-    while i < stored.len() {
-        out[1 + i] = stored[i];
-        i += 1;
-    }
+    out[1..=stored.len()].copy_from_slice(stored);
 }
 
 // Puts the head for n shares before a stored program. Turned down with 1; 2 where there are more than 8,257,536 words; 3 at the first bad
 // word, and a head is one at every place; 4 where `out` is shorter than the words and the head. Turned down, it leaves `out` as it was;
 // done, it leaves `out` as it was past the program's end. Counts the words, head included, and the tape words. What holds of it is `Converts`.
-pub fn add_head(n: usize, stored: &[u32], out: &mut [u32]) -> Answer
-    ensures answer { result ≡ add_head_answer n stored.now (length out.old) }
+pub fn add_head(n: usize, stored: &[u32], out: &mut [u32]) -> Result<Counts, Refusal>
+    ensures answer { answer_of result ≡ add_head_answer n stored.now (length out.old) }
     ensures out { out.new ≡ add_head_out n stored.now out.old }
     ensures holds { Converts }
 {
-    let answer = answer_for(n, stored, out.len());
-    if answer.number == 0 {
-        put_before(n as u8, stored, out);
-    }
-    answer
+    let counts = answer_for(n, stored, out.len())?;
+    put_before(n as u8, stored, out);
+    Ok(counts)
 }

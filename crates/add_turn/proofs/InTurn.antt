@@ -104,12 +104,13 @@ module _ (k : ℕ) where
     pub begin : (c : List ℕ) → Rest n n c c
     begin c tape = refl
 
-    pub turn : (i q : ℕ) → 0 < i → q ≡ 288 + 8 * i → (before c : List ℕ) → Rest n i before c → Rest n (i - 1) before (turned (q - 8) c)
-    turn i q h e before c l tape =
+    -- share i - 1 in its turn
+    pub turn : (i : ℕ) → 0 < i → (before c : List ℕ) → Rest n i before c → Rest n (i - 1) before (turned (288 + (i - 1) * 8) c)
+    turn i h before c l tape =
         let x : i ≡ suc (i - 1) = omega arith in
         l tape ∙ ap (λ (m : ℕ). exec_steps (steps (shares m)) tape c) x
         ∙ last 0 (i - 1) (i - 1) (omega arith) tape c
-        ∙ ap (exec_steps (steps (shares (i - 1))) tape) (one (i - 1) (q - 8) (omega arith) tape c)
+        ∙ ap (exec_steps (steps (shares (i - 1))) tape) (one (i - 1) (288 + (i - 1) * 8) (omega arith) tape c)
 
     pub end : (i : ℕ) → i ≤ 0 → (before c : List ℕ) → Rest n i before c → Still (blocks scratch n (Xor r_g r_g r_t ∷ Shl r_t r_p k ∷ [])) before c
     end i h before c l tape =

@@ -19,11 +19,8 @@ pub fn merged(k: u32, n: usize, cells: &mut [u64])
     requires { (k < 64) × (n ≤ 8) × (length cells.old ≡ 512) }
     ensures { Still (blocks scratch n (Xor r_g r_g r_t ∷ Shl r_t r_p k ∷ [])) cells.old cells.new }
 {
-    let mut q = H + n * STRIDE;
-    let mut i = n;
-    while i > 0 {
-        q -= STRIDE;
-        i -= 1;
+    for i in (0..n).rev() {
+        let q = H + i * STRIDE;
         cells[q + 1] = cells[q + 1] ^ cells[q + 3];
         cells[q + 3] = cells[q + 2] << k;
     }

@@ -2,13 +2,13 @@
 -- and done for a number that is known to be another. Rests on Parts.
 use mathlib.Core.Path.{◌≡◌, sym, subst}
 use mathlib.Core.List.{List}
-use Prim.Native.Nat.{ℕ, ◌≤◌}
+use Prim.Native.Nat.{ℕ, ◌+◌, ◌≤◌}
 use lib.ListN.{length}
 use Rattle.masking.specs.Translation.{pairs, shares, refresh, products, scratch}
 use Rattle.and_parts.specs.declared.once.Place.{Place}
 use Rattle.and_parts.specs.inner.Effects.{Enough, Nearly, Ran, Register, Wholly, at, first_half, placed, second_half}
 use Rattle.and_many.specs.inner.Asked.{Asked, and_of}
-use Rattle.and_many.proofs.Parts.{fresh_enough, second_enough, halves_done}
+use Rattle.and_many.proofs.Parts.{fresh_enough, second_enough, halves_done, two_words}
 
 module _ {n : ℕ} {d : Place} {a b over : ℕ} {tape : List ℕ} {t : ℕ} {c : List ℕ} (h : Asked n d a b over tape t c) where
   pub first_asks : ((2 ≤ n) × (n ≤ 8) × (length c ≡ 512) × Register (placed a over) × Register (placed b over)) × Enough tape t (refresh scratch (pairs (shares n)))
@@ -27,3 +27,7 @@ module _ {n : ℕ} {d : Place} {a b over : ℕ} {tape : List ℕ} {t : ℕ} {c :
 
   pub ran_for : {m : ℕ} {c₁ : List ℕ} {t₁ : ℕ} → n ≡ m → Ran (and_of m d a b over) tape t c c₁ t₁ → Ran (and_of n d a b over) tape t c c₁ t₁
   ran_for {c₁ = c₁} {t₁ = t₁} e = subst (λ (k : ℕ). Ran (and_of k d a b over) tape t c c₁ t₁) (sym e)
+
+-- two shares take two words
+pub two_left : {d : Place} {a b over : ℕ} {tape : List ℕ} {t : ℕ} {c : List ℕ} → Asked 2 d a b over tape t c → t + 2 ≤ length tape
+two_left {d} {a} {b} {over} {tape} {t} h = two_words (at d) (at (placed a over)) (at (placed b over)) tape t h.words

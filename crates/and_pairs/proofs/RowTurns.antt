@@ -75,7 +75,7 @@ module _ (i j : ℕ) (ij : i < j) (j8 : j < 8) (tape : List ℕ) (t : ℕ) where
           place = omega arith;
         }
 
-    module _ (c : List ℕ) (size : length c ≡ 512) (z q : ℕ) (eq : q ≡ at A j) where
+    module _ (c : List ℕ) (size : length c ≡ 512) (z : ℕ) where
       -- z_i in a local
       abbrev held_z : List ℕ
       held_z = set c (264 + i) z
@@ -88,7 +88,7 @@ module _ (i j : ℕ) (ij : i < j) (j8 : j < 8) (tape : List ℕ) (t : ℕ) where
       s = xor_w r (and_w (get_or c (at A i) 0) (get_or c (256 + j) 0))
 
       abbrev w : ℕ
-      w = xor_w s (and_w (get_or (set c 272 s) q 0) (get_or (set c 272 s) (256 + i) 0))
+      w = xor_w s (and_w (get_or (set c 272 s) (at A j) 0) (get_or (set c 272 s) (256 + i) 0))
 
       abbrev stored : List ℕ
       stored = set (set c 272 s) 272 w
@@ -98,7 +98,7 @@ module _ (i j : ℕ) (ij : i < j) (j8 : j < 8) (tape : List ℕ) (t : ℕ) where
           let p = kept (at A i) (R.away i (264 + i) (omega arith) (omega arith) (omega arith)) in
           let x = kept (256 + j) (λ e. omega arith) in
           let o = a_other j j8 in
-          let v = kept (at A j) (R.away j (264 + i) j8 (omega arith) (omega arith)) ∙ sym (get_or-set_other c 272 (at A j) s 0 o.0) ∙ ap (λ (k : ℕ). get_or (set c 272 s) k 0) (sym eq) in
+          let v = kept (at A j) (R.away j (264 + i) j8 (omega arith) (omega arith)) ∙ sym (get_or-set_other c 272 (at A j) s 0 o.0) in
           let y = kept (256 + i) (λ e. omega arith) ∙ sym (get_or-set_other c 272 (256 + i) s 0 (λ e. omega arith)) in
           ap₂ xor_w (ap (xor_w r) (ap₂ and_w p x)) (ap₂ and_w v y)
 

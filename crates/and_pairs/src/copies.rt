@@ -11,12 +11,8 @@ pub fn diagonal(a: usize, over: usize, n: usize, cells: &mut [u64])
     requires { (n ≤ 8) × (length cells.old ≡ 512) × Register (placed a over) }
     ensures { NearlyStill (diagonal n (at (placed a over))) cells.old cells.new }
 {
-    let mut q = a;
-    let mut i = 0;
-    while i < n {
-        cells[Z + i] = cells[q] & cells[Y + i];
-        q += over;
-        i += 1;
+    for i in 0..n {
+        cells[Z + i] = cells[a + i * over] & cells[Y + i];
     }
 }
 
@@ -25,12 +21,7 @@ pub fn copy_out(d: Place, n: usize, cells: &mut [u64])
     requires { (n ≤ 8) × (length cells.old ≡ 512) × Register d }
     ensures { NearlyStill (copy_out n (at d)) cells.old cells.new }
 {
-    let over = d.stride;
-    let mut q = d.base;
-    let mut i = 0;
-    while i < n {
-        cells[q] = cells[Z + i];
-        q += over;
-        i += 1;
+    for i in 0..n {
+        cells[d.cell(i)] = cells[Z + i];
     }
 }

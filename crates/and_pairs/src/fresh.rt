@@ -18,10 +18,8 @@ pub fn fresh_copy(
     requires enough { Enough tape.now t (refresh scratch (pairs (shares n))) }
     ensures { Nearly (copy_in n (at (placed b over)) ++ refresh scratch (pairs (shares n))) tape.now t cells.old cells.new result }
 {
-    let mut k = 0;
-    while k < n {
+    for k in 0..n {
         fresh_share(k, b, over, n, tape, t, cells);
-        k += 1;
     }
     t + n * (n - 1) / 2
 }

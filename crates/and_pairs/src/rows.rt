@@ -21,20 +21,16 @@ fn cross_row(
 {
     let mut t = t;
     let p = a + i * over;
-    let mut q = p + over;
-    let mut j = i + 1;
     let mut z = cells[Z + i];
-    while j < n {
+    for j in i + 1..n {
         // Not to be reordered: s is stored before a_j is loaded, and the tape word read again after w is stored (tests/leakage).
         let s = tape[t] ^ (cells[p] & cells[Y + j]);
         cells[T] = s;
-        let w = s ^ (cells[q] & cells[Y + i]);
+        let w = s ^ (cells[a + j * over] & cells[Y + i]);
         cells[T] = w;
         z = z ^ tape[t];
         cells[Z + j] = cells[Z + j] ^ w;
         t += 1;
-        q += over;
-        j += 1;
     }
     cells[Z + i] = z;
     t
@@ -47,10 +43,8 @@ pub fn crosses(a: usize, over: usize, n: usize, tape: &[u64], t: usize, cells: &
     ensures { Nearly (products scratch (at (placed a over)) (pairs (shares n))) tape.now t cells.old cells.new result }
 {
     let mut t = t;
-    let mut i = 0;
-    while i < n {
+    for i in 0..n {
         t = cross_row(a, over, i, n, tape, t, cells);
-        i += 1;
     }
     t
 }

@@ -1,9 +1,8 @@
 -- What one turn of the loop over shares does. Rests on masking's Rising.
 use mathlib.Core.Path.{◌≡◌, refl, ap, ◌∙◌}
 use mathlib.Core.List.{List, [], ◌∷◌, map}
-use Prim.Native.Nat.{ℕ, ◌+◌, ◌-◌, ◌*◌, ◌≤◌, ◌<◌}
-use native.Mathlib.Nat.{mul-le-mul_right, suc-mul}
-use native.Mathlib.Numerals.{add-one}
+use Prim.Native.Nat.{ℕ, ◌+◌, ◌-◌, ◌<◌}
+use native.Mathlib.Nat.{mul-le-mul_right}
 use native.Mathlib.Omega.{arith}
 use lib.ListN.{get_or, set, drop}
 use Rattle.masking.specs.Translation.{up_from}
@@ -18,14 +17,8 @@ use Rattle.and_parts.specs.inner.Effects.{InCells, at, once_step, value_of}
 pub at_first : (p : Place) → p.base ≡ at p 0
 at_first p = omega (arith, native.Mathlib.Nat.zero-mul p.stride)
 
-pub at_next : (p : Place) (i : ℕ) → at p i + p.stride ≡ at p (i + 1)
-at_next p i = omega (arith, suc-mul i p.stride, ap (λ (k : ℕ). k * p.stride) (add-one i))
-
 pub at_inside : (p : Place) → InCells p → (i : ℕ) → i < 8 → at p i < 512
 at_inside p h i l = omega (arith, mul-le-mul_right {m = i} {n = 7} p.stride (omega arith))
-
-pub at_fits : (p : Place) → InCells p → (i : ℕ) → i ≤ 8 → at p i < 1024
-at_fits p h i l = omega (arith, mul-le-mul_right {m = i} {n = 8} p.stride (omega arith))
 
 -- ---- one share's step
 module _ (d a b : ℕ → ℕ) (i : ℕ) where

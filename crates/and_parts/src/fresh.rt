@@ -22,17 +22,13 @@ pub fn fresh_share(
     let mut y = cells[b + k * over];
     let mut p = t;
     let mut row = n - 1;
-    let mut below = k;
-    while below > 0 {
-        below -= 1;
+    for below in (0..k).rev() {
         y = y ^ tape[p + below];
         p += row;
         row -= 1;
     }
-    while row > 0 {
-        y = y ^ tape[p];
-        p += 1;
-        row -= 1;
+    for word in &tape[p..p + row] {
+        y = y ^ *word;
     }
     cells[Y + k] = y;
 }

@@ -1,5 +1,5 @@
 // What is done once per share.
-ghost use Rattle.std.specs.Prelude.{◌≡◌, map, ◌≤◌, length};
+ghost use Rattle.std.specs.Prelude.{◌≡◌, map, ◌≤◌, ◌<◌, length};
 ghost use Rattle.masking.specs.Translation.{shares};
 ghost use Rattle.and_parts.specs.inner.Effects.{InCells, Shifts, Still, at, once_step, value_of};
 
@@ -8,6 +8,16 @@ ghost use Rattle.and_parts.specs.inner.Effects.{InCells, Shifts, Still, at, once
 pub struct Place {
     pub base: usize,
     pub stride: usize,
+}
+
+impl Place {
+    // Share i's cell.
+    pub fn cell(self, i: usize) -> usize
+        requires { (i < 8) × InCells self }
+        ensures { (result ≡ at self i) × (result < 512) }
+    {
+        self.base + i * self.stride
+    }
 }
 
 // What a share's cell becomes, of the same share of two operands.
@@ -32,18 +42,7 @@ pub fn each(op: Op, d: Place, a: Place, b: Place, n: usize, cells: &mut [u64])
     requires { (n ≤ 8) × (length cells.old ≡ 512) × Shifts op × InCells d × InCells a × InCells b }
     ensures { Still (map (once_step op (at d) (at a) (at b)) (shares n)) cells.old cells.new }
 {
-    let over_d = d.stride;
-    let over_a = a.stride;
-    let over_b = b.stride;
-    let mut p = d.base;
-    let mut q = a.base;
-    let mut r = b.base;
-    let mut i = 0;
-    while i < n {
-        cells[p] = value(op, cells[q], cells[r]);
-        p += over_d;
-        q += over_a;
-        r += over_b;
-        i += 1;
+    for i in 0..n {
+        cells[d.cell(i)] = value(op, cells[a.cell(i)], cells[b.cell(i)]);
     }
 }

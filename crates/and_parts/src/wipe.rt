@@ -11,11 +11,9 @@ pub fn wipe(n: usize, cells: &mut [u64])
     requires { (n ≤ 8) × (length cells.old ≡ 512) }
     ensures { Still (wiping (scratch_cells scratch n)) cells.old cells.new }
 {
-    let mut i = 0;
-    while i < n {
+    for i in 0..n {
         cells[Y + i] = 0;
         cells[Z + i] = 0;
-        i += 1;
     }
     cells[T] = 0;
     cells[U] = 0;

@@ -7,11 +7,13 @@ use Rattle.bits.proofs.Xor.{xor_cancel, xor_comm}
 use Rattle.binary64.proofs.Cases.{by_eq}
 
 -- a word under the mask that zero less the Bool makes
-pub masked : (b : Bool) (m x : ℕ) → x < 2 ^ 64 → m < 2 ^ 64 → (m + bool_byte b) % 2 ^ 64 ≡ 0 → bit_and m x ≡ cond b x 0
-masked false m x h l e = let z : m ≡ 0 = omega arith in ap (λ (k : ℕ). bit_and k x) z ∙ and_zero_l x
-masked true m x h l e =
-    let o : m ≡ 2 ^ 64 - 1 = omega arith in
-    ap (λ (k : ℕ). bit_and k x) o ∙ and_comm (2 ^ 64 - 1) x ∙ and_mask x 64 ∙ mod-eq_of_lt h
+pub masked : (b : Bool) (k x : ℕ) → x < 2 ^ 64 → k ≡ bool_byte b → bit_and ((0 + (2 ^ 64 - k)) % 2 ^ 64) x ≡ cond b x 0
+masked false k x h e =
+    let z : (0 + (2 ^ 64 - k)) % 2 ^ 64 ≡ 0 = omega arith in
+    ap (λ (m : ℕ). bit_and m x) z ∙ and_zero_l x
+masked true k x h e =
+    let o : (0 + (2 ^ 64 - k)) % 2 ^ 64 ≡ 2 ^ 64 - 1 = omega arith in
+    ap (λ (m : ℕ). bit_and m x) o ∙ and_comm (2 ^ 64 - 1) x ∙ and_mask x 64 ∙ mod-eq_of_lt h
 
 -- y, or y with its difference from x put in
 pub chosen : (b : Bool) (x y : ℕ) → bit_xor y (cond b (bit_xor x y) 0) ≡ cond b x y

@@ -34,7 +34,7 @@ pub fn magnitude(a: u64, b: u64) -> u64
     let e = ea + eb;
     let bits = encode(
         jammed_product(significand(a), significand(b)),
-        std::num::wrapping_sub_u64(e, 1015),
+        e.wrapping_sub(1015),
     );
     kept(ea != 0, kept(eb != 0, kept(1015 <= e, bits)))
 }

@@ -35,7 +35,7 @@ pub fn nearest(a: u64) -> u64
     ensures { result ≡ nearest a }
 {
     let f = whole::fraction(a);
-    let raised = std::num::wrapping_add_u64(a, (f >> 1) + whole::last_whole(a));
+    let raised = a.wrapping_add((f >> 1) + whole::last_whole(a));
     let rounded = whole::cleared(raised, f);
     let above = 0x3fe0_0000_0000_0000 < (a & 0x7fff_ffff_ffff_ffff);
     whole::by_range(a, whole::below_one(a, above), rounded)

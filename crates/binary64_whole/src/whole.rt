@@ -47,5 +47,5 @@ pub fn cleared(t: u64, f: u64) -> u64
 pub fn lower(a: u64, f: u64) -> u64
     ensures { result ≡ lowered_by f a }
 {
-    cleared(std::num::wrapping_add_u64(a, kept(sign_bit(a) != 0, f)), f)
+    cleared(a.wrapping_add(kept(sign_bit(a) != 0, f)), f)
 }

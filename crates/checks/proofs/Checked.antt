@@ -1,6 +1,7 @@
 -- The check of a plan or share program: what one that passes says, and that one that does not is the answer whatever comes next.
 -- Rests on Checking.
-use mathlib.Core.Path.{◌≡◌, refl, sym, ap, ◌∙◌}
+use Rattle.std.specs.Prelude.{Option}
+use mathlib.Core.Path.{◌≡◌, refl}
 use mathlib.Core.Bool.{Bool, true, false}
 use mathlib.Core.List.{List}
 use Prim.Native.Nat.{ℕ, ◌≤◌, ◌<◌}
@@ -9,20 +10,20 @@ use native.Mathlib.Omega.{arith}
 use lib.Dec.{ltb}
 use lib.ListN.{length}
 use borrow.Author.Tests.{ltb-false, lt-ltb, le-ltb}
-use Rattle.word.specs.declared.step.Decoded.{Decoded}
+use Rattle.word.specs.declared.step.Step.{Step}
 use Rattle.word.specs.Encoding.{plan_step, program_step}
 use Rattle.word.specs.Layout.{plan_max, program_max}
 use Rattle.checks.specs.declared.answer.Answer.{Answer}
-use Rattle.checks.specs.Answers.{first_bad, done, refused, bad_at, given, checked, plan_checked, program_checked}
+use Rattle.checks.specs.Answers.{first_bad, refused, bad_at, given, checked, plan_checked, program_checked}
 use Rattle.checks.proofs.Checking.{first_bad_is}
 use Rattle.checks.proofs.Passed.{passed}
 
 -- not too long, and no word is bad
-pub record Passes (most : ℕ) (step : ℕ → Decoded) (words : List ℕ) : Type 0 where
+pub record Passes (most : ℕ) (step : ℕ → Option Step) (words : List ℕ) : Type 0 where
   pub short : length words ≤ most
   pub good : first_bad step words ≡ length words
 
-module _ (most : ℕ) (step : ℕ → Decoded) (words : List ℕ) where
+module _ (most : ℕ) (step : ℕ → Option Step) (words : List ℕ) where
   -- what an answer that is done says
   done_passes : (x : Answer) → (checked most step words x).number ≡ 0 → Passes most step words × (x.number ≡ 0)
   done_passes x z =
@@ -55,18 +56,12 @@ module _ (most : ℕ) (step : ℕ → Decoded) (words : List ℕ) where
       by false true = (omega arith, omega arith)
       by false false = (omega arith, omega arith)
 
-  -- the answer of a function that checks, by the place i where its search ended
+  -- the answer of a list that is too long
   too_long : {a : Answer} (next : Answer) → most < length words → a ≡ refused 2 → a ≡ checked most step words next
   too_long next l e = rw (lt-ltb most (length words) l) e
 
-  bad_found : {i : ℕ} {a : Answer} (next : Answer) → length words ≤ most → i ≡ first_bad step words → i < length words → a ≡ bad_at i → a ≡ checked most step words next
-  bad_found next s f l e = rw (le-ltb most (length words) s, lt-ltb (first_bad step words) (length words) (rw f at l)) (rw f at e)
-
-  none_found : {i : ℕ} {a : Answer} (next : Answer) → length words ≤ most → i ≡ first_bad step words → length words ≤ i → a ≡ next → a ≡ checked most step words next
-  none_found next s f l e = rw (le-ltb most (length words) s, le-ltb (first_bad step words) (length words) (rw f at l)) e
-
 -- the two checks: what holds of one given by name
-pub record Check (most : ℕ) (step : ℕ → Decoded) (check : List ℕ → Answer → Answer) : Type 0 where
+pub record Check (most : ℕ) (step : ℕ → Option Step) (check : List ℕ → Answer → Answer) : Type 0 where
   -- an answer that is done: the check passes, and what comes next is done
   pub passes : (words : List ℕ) (x : Answer) → (check words x).number ≡ 0 → Passes most step words × (x.number ≡ 0)
   -- where it passes, what comes next is the answer
@@ -75,13 +70,10 @@ pub record Check (most : ℕ) (step : ℕ → Decoded) (check : List ℕ → Ans
   pub down : (words : List ℕ) (x y : Answer) → x.number ≡ 0 → ((check words x).number ≡ 0 → ⊥) → check words x ≡ check words y
   -- it counts nothing of its own
   pub counts : (words : List ℕ) (x : Answer) → ((check words x).words ≤ x.words) × ((check words x).tape ≤ x.tape)
-  -- what a function answers that asks for the length, and then for the place i of the first bad word
   pub long : (words : List ℕ) {a : Answer} (x : Answer) → most < length words → a ≡ refused 2 → a ≡ check words x
-  pub bad : (words : List ℕ) {i : ℕ} {a : Answer} (x : Answer) → length words ≤ most → i ≡ first_bad step words → i < length words → a ≡ bad_at i → a ≡ check words x
-  pub none : (words : List ℕ) {i : ℕ} {a : Answer} (x : Answer) → length words ≤ most → i ≡ first_bad step words → length words ≤ i → a ≡ x → a ≡ check words x
 
 -- it by any name
-all_of : (most : ℕ) (step : ℕ → Decoded) → Check most step (checked most step)
+all_of : (most : ℕ) (step : ℕ → Option Step) → Check most step (checked most step)
 all_of most step =
     record {
       passes = done_passes most step;
@@ -89,8 +81,6 @@ all_of most step =
       down = down_next most step;
       counts = no_counts most step;
       long = too_long most step;
-      bad = bad_found most step;
-      none = none_found most step;
     }
 
 pub plan_check : Check plan_max plan_step plan_checked
@@ -100,11 +90,3 @@ plan_check = all_of plan_max plan_step
 pub program_check : Check program_max program_step program_checked
 unfolding program_checked
 program_check = all_of program_max program_step
-
--- a function's answer to a check that comes before others, where nothing is counted yet
-module _ (most : ℕ) (step : ℕ → Decoded) (check : List ℕ → Answer → Answer) (C : Check most step check) (words : List ℕ) (a : Answer) (e : a ≡ check words (done 0 0)) where
-  pub passed_check : a.number ≡ 0 → Passes most step words
-  passed_check z = (C.passes words (done 0 0) (sym (ap (λ (x : Answer). x.number) e) ∙ z)).0
-
-  pub stopped : (a.number ≡ 0 → ⊥) → (y : Answer) → a ≡ check words y
-  stopped h y = e ∙ C.down words (done 0 0) y refl (λ z. h (ap (λ (x : Answer). x.number) e ∙ z))

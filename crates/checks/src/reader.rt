@@ -1,4 +1,4 @@
-// The plan reader: the lent plan and the number of the next word. The search that keeps a reader and advances it is `plan::plan_first_bad`.
+// The plan reader: the lent plan and the number of the next word. The search that keeps a reader and advances it is `check::first_bad`.
 ghost use Rattle.std.specs.Prelude.{◌≡◌, ◌+◌, ◌-◌, ◌<◌, ◌^◌, length};
 ghost use Rattle.checks.specs.Reader.{read_at};
 
@@ -8,31 +8,18 @@ pub struct PlanReader<'a> {
     pub next: usize,
 }
 
-// What a reader finds: a word, or the plan's end.
-#[derive(Clone, Copy)]
-pub enum Read {
-    Word(u32),
-    End,
-}
-
-// What stands at a place of a plan.
-pub fn read_at(plan: &[u32], at: usize) -> Read
+// What stands at a place of a plan: a word, or none at the plan's end.
+pub fn read_at(plan: &[u32], at: usize) -> Option<u32>
     ensures { result ≡ read_at plan.now at }
 {
-    let end = plan.len();
-    if at < end {
-        let w = plan[at];
-        Read::Word(w)
-    } else {
-        Read::End
-    }
+    plan.get(at).copied()
 }
 
 // How many words a plan has from a place on.
 pub fn left_from(plan: &[u32], at: usize) -> usize
     ensures { result ≡ length plan.now - at }
 {
-    if at < plan.len() { plan.len() - at } else { 0 }
+    plan.len().saturating_sub(at)
 }
 
 // A reader that stands at a word.
@@ -53,8 +40,8 @@ pub fn advance<'a>(r: PlanReader<'a>) -> PlanReader<'a>
     }
 }
 
-// The next word, or the plan's end.
-pub fn next_word<'a>(r: PlanReader<'a>) -> Read
+// The next word, or none at the plan's end.
+pub fn next_word<'a>(r: PlanReader<'a>) -> Option<u32>
     ensures { result ≡ read_at r.entry.plan.now r.entry.next }
 {
     read_at(r.plan, r.next)

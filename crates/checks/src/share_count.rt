@@ -6,5 +6,5 @@ ghost use Rattle.word.specs.Layout.{is_share_count};
 pub fn is_share_count(n: usize) -> bool
     ensures { result ≡ is_share_count n }
 {
-    2 <= n && n <= 8
+    (2..=8).contains(&n)
 }

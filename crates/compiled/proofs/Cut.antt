@@ -1,7 +1,6 @@
--- A plan cut at its ANDs and ADDs: runs of linear words, and the words between them. What is left to do from a run on, and a turn over a run
--- and the word after it. Rests on OnSteps for a run share by share, and on and_parts' Running for steps done in parts.
+-- Of a plan cut at its ANDs and ADDs (specs/inner/Cut) what is left to do from a run on, and a turn over a run and the word after it. Rests on OnSteps for a run share by share, and on and_parts' Running for steps done in parts.
 use mathlib.Core.Path.{◌≡◌, refl, sym, ap, ◌∙◌, subst}
-use mathlib.Core.Bool.{Bool, true, ◌&&◌}
+use mathlib.Core.Bool.{Bool, ◌&&◌}
 use mathlib.Core.List.{List, [], ◌∷◌, ◌++◌}
 use Prim.Native.Nat.{ℕ, zero, suc, ◌+◌, ◌≤◌, ◌<◌}
 use native.Mathlib.Numerals.{add-one}
@@ -20,28 +19,8 @@ use Rattle.and_parts.proofs.Running.{Left, renamed, part}
 use Rattle.and_parts.proofs.Running as running
 use Rattle.gates.specs.inner.PlanWords.{GoodPlanWord}
 use Rattle.compiled.specs.inner.OnShare.{share_by_share}
-use Rattle.compiled.proofs.OnSteps.{all_linear, is_good_is, run_does}
-
-abbrev pub glue : List (List ℕ) → List ℕ → List ℕ → List ℕ
-glue [] last gs = last
-glue (r ∷ rs) last [] = last
-glue (r ∷ rs) last (g ∷ gs) = r ++ (g ∷ glue rs last gs)
-
-abbrev pub all_runs : List (List ℕ) → Bool
-all_runs [] = true
-all_runs (r ∷ rs) = all_linear r && all_runs rs
-
--- the words between are good, and of the kinds that `p` takes
-abbrev pub all_good : (ℕ → Bool) → List ℕ → Bool
-all_good p [] = true
-all_good p (g ∷ gs) = (is_good (plan_step g) && p (kind_of g)) && all_good p gs
-
-pub record Cut (p : ℕ → Bool) (rs : List (List ℕ)) (last gs plan : List ℕ) : Type 0 where
-  pub whole : glue rs last gs ≡ plan
-  pub runs : T (all_runs rs)
-  pub final : T (all_linear last)
-  pub gates : T (all_good p gs)
-  pub same : length rs ≡ length gs
+use Rattle.compiled.specs.inner.Cut.{Cut, all_good, all_linear, all_runs, glue}
+use Rattle.compiled.proofs.OnSteps.{is_good_is, run_does}
 
 run_at : (rs : List (List ℕ)) (d : List ℕ) → T (all_runs rs) → T (all_linear d) → (k : ℕ) → T (all_linear (get_or rs k d))
 run_at [] d h l k = l

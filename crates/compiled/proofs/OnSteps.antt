@@ -1,5 +1,6 @@
 -- A linear plan word's share steps are `on_share` on each share, and a run's are its words share by share. Rests on gates' Words for a word's
 -- share steps, and on Commute for the order of shares.
+use Rattle.std.specs.Prelude.{Option, Some, None}
 use mathlib.Core.Path.{◌≡◌, refl, sym, ap, ◌∙◌, subst}
 use mathlib.Core.Bool.{Bool, true, false, cond, ◌&&◌}
 use mathlib.Core.List.{List, [], ◌∷◌, map}
@@ -12,14 +13,13 @@ use Rattle.word.specs.declared.step.Step.{Step}
 use Rattle.word.specs.declared.step.Step.TheVariants.{Const, Xor, Not, Shl, Shr, Spread}
 use Rattle.word.specs.Encoding.{plan_step, kind_of, field_d, field_a, field_b, is_good}
 use Rattle.word.specs.Layout.{tape_of}
-use Rattle.word.specs.declared.step.Decoded.{Decoded}
-use Rattle.word.specs.declared.step.Decoded.TheVariants.{Good, Bad}
 use Rattle.word.proofs.Ranges.{both}
 use Rattle.masking.specs.Translation.{shares, share_cell, first_other, words_for, program}
 use Rattle.masking.specs.Machine.{takes, steps_of, exec_step, exec_steps}
 use Rattle.masking.proofs.emitted.Places.{share_register}
 use Rattle.masking.proofs.InARow.{steps_append}
 use Rattle.compiled.specs.inner.OnShare.{linear_word, on_share, share_by_share}
+use Rattle.compiled.specs.inner.Cut.{all_linear, linear_kind}
 use Rattle.compiled.proofs.Commute.{on_shares, word_by_word, share_by_share_is}
 use Rattle.and_parts.specs.inner.Effects.{Ran}
 use Rattle.gates.specs.inner.PlanWords.{GoodPlanWord, IsGood}
@@ -121,16 +121,9 @@ module _ (w : ℕ) (good : GoodPlanWord w) (n : ℕ) (least : 2 ≤ n) (most : n
       (λ i tape c. rw (at_d w h.0 i, at_a w h.1.0 i, k)) (shares n) tape c)
 
 -- ---- linear words
-abbrev pub linear_kind : ℕ → Bool
-linear_kind k = cond (eqb k 1) true (cond (eqb k 2) true (cond (eqb k 4) true (cond (eqb k 5) true (cond (eqb k 6) true (eqb k 7)))))
-
-abbrev pub all_linear : List ℕ → Bool
-all_linear [] = true
-all_linear (w ∷ ws) = (is_good (plan_step w) && linear_kind (kind_of w)) && all_linear ws
-
-pub is_good_is : (d : Decoded) → T (is_good d) → IsGood d
-is_good_is (Good s) h = tt
-is_good_is Bad h = absurd h
+pub is_good_is : (d : Option Step) → T (is_good d) → IsGood d
+is_good_is (Some s) h = tt
+is_good_is None h = absurd h
 
 pick : {R : Type 0} (b x : Bool) → T (cond b true x) → (b ≡ true → R) → (T x → R) → R
 pick true x h f g = f refl

@@ -43,7 +43,7 @@ pub fn linear(w: u32, i: usize, cells: &mut [u64])
     cells[d] = value(w, i, cells[a], cells[b]);
 }
 
-// Two in a row.
+// Two in a row. Calls and no loop over an array of words: tried as a loop, the compiler kept it, and took each word apart at run time.
 pub fn two(w0: u32, w1: u32, i: usize, cells: &mut [u64])
     requires { (i < 8) × (length cells.old ≡ 512) }
     ensures { cells.new ≡ on_share_all i (w0 ∷ w1 ∷ []) cells.old }

@@ -1,14 +1,13 @@
 // Written by tools/compile_plan.py: change the plan or the compiler, not this file.
-// Nearest's plan on n shares: its linear runs share by share, and the words between them.
-ghost use Rattle.std.specs.Prelude.{◌≡◌, ◌≤◌, ◌<◌, get_or, length};
-ghost use Rattle.masking.specs.Translation.{shares};
-ghost use Rattle.compiled.specs.inner.OnShare.{on_share_all, share_by_share};
+// Nearest's plan: its linear runs on one share, and the words between them.
+ghost use Rattle.std.specs.Prelude.{◌≡◌, ◌<◌, get_or, length};
+ghost use Rattle.compiled.specs.inner.OnShare.{on_share_all};
 ghost use Rattle.compiled_nearest.specs.inner.Runs.{gates, last_run, runs};
 
 use compiled::linear::{eight, four, linear, sixteen, two};
 
 // Run k on share i.
-fn on_share(k: usize, i: usize, cells: &mut [u64])
+pub(crate) fn on_share(k: usize, i: usize, cells: &mut [u64])
     requires { (i < 8) × (length cells.old ≡ 512) }
     ensures { cells.new ≡ on_share_all i (get_or runs k last_run) cells.old }
 {
@@ -148,19 +147,6 @@ fn on_share(k: usize, i: usize, cells: &mut [u64])
         _ => {
             two(0x20080010, 0x20080403, i, cells);
         }
-    }
-}
-
-// Run k on each of n shares. Part of its caller in the machine code, where other words come between those of two shares.
-#[inline(always)]
-pub(crate) fn run(k: usize, n: usize, cells: &mut [u64])
-    requires { (n ≤ 8) × (length cells.old ≡ 512) }
-    ensures { cells.new ≡ share_by_share (shares n) (get_or runs k last_run) cells.old }
-{
-    let mut i = 0;
-    while i < n {
-        on_share(k, i, cells);
-        i += 1;
     }
 }
 

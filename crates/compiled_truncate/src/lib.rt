@@ -1,34 +1,53 @@
 // Written by tools/compile_plan.py: change the plan or the compiler, not this file.
-// Truncation's plan on n shares (done), by its runs (runs), and the call over it (calls, in_place).
+// Truncation's plan compiled: its parts as code (runs), for masked_plan, which does them on n shares and has the calls.
 #![tactic(auto)]
 
-ghost use Rattle.std.specs.Prelude.{◌≡◌, ◌≤◌, length};
-ghost use Rattle.masking.specs.Machine.{steps_of};
-ghost use Rattle.masking.specs.Translation.{program};
-ghost use Rattle.and_parts.specs.inner.Effects.{Enough, Ran};
+ghost use Rattle.std.specs.Prelude.{eqb};
 ghost use Rattle.plans.specs.words.TruncatePlan.{truncate_plan};
+ghost use Rattle.compiled_truncate.specs.inner.Runs as parts;
+ghost use Rattle.compiled_truncate.specs.inner.Laws.{laws};
 
-use crate::runs::{gate, run};
 use gates::gates::and_done;
+use masked_plan::compiled_plan::CompiledPlan;
 
-pub mod calls;
-pub mod in_place;
 mod runs;
 
-// The plan's words in order, from place `start` of the tape on; the answer is the next place.
-pub fn done(n: usize, tape: &[u64], start: usize, cells: &mut [u64]) -> usize
-    requires le_n { (2 ≤ n) × (n ≤ 8) × (length cells.old ≡ 512) }
-    requires enough { Enough tape.now start (steps_of (program n truncate_plan)) }
-    ensures { Ran (steps_of (program n truncate_plan)) tape.now start cells.old cells.new result }
-{
-    let mut t = start;
-    let mut k = 0;
-    loop {
-        run(k, n, cells);
-        if k == 5 {
-            return t;
-        }
-        t = and_done(gate(k), n, tape, t, cells);
-        k += 1;
+pub struct TruncatePlan;
+
+impl CompiledPlan for TruncatePlan {
+    ghost plan = { truncate_plan };
+
+    ghost runs = { parts.runs };
+
+    ghost last_run = { parts.last_run };
+
+    ghost gates = { parts.gates };
+
+    ghost kinds = { (λ k. eqb k 3) };
+
+    ghost GATES = { 5 };
+
+    ghost UNITS = { 5 };
+
+    ghost laws = { laws };
+
+    const GATES: usize = 5;
+
+    const UNITS: usize = 5;
+
+    // These three are part of their caller in the machine code.
+    #[inline(always)]
+    fn on_share(k: usize, i: usize, cells: &mut [u64]) {
+        runs::on_share(k, i, cells);
+    }
+
+    #[inline(always)]
+    fn gate(k: usize) -> u32 {
+        runs::gate(k)
+    }
+
+    #[inline(always)]
+    fn gate_done(w: u32, n: usize, tape: &[u64], t: usize, cells: &mut [u64]) -> usize {
+        and_done(w, n, tape, t, cells)
     }
 }

@@ -20,22 +20,19 @@ const H: Cells = Cells {
 };
 
 const G: Cells = Cells {
-    first: StepWord::HELPERS + 1,
-    over: StepWord::HELPER_SHARE,
+    first: H.first + 1,
+    ..H
 };
 
 const P: Cells = Cells {
-    first: StepWord::HELPERS + 2,
-    over: StepWord::HELPER_SHARE,
+    first: H.first + 2,
+    ..H
 };
 
 const T: Cells = Cells {
-    first: StepWord::HELPERS + 3,
-    over: StepWord::HELPER_SHARE,
+    first: H.first + 3,
+    ..H
 };
-
-// A field that is 0 in each share.
-const ZERO: Cells = Cells { first: 0, over: 0 };
 
 // The last shift of ADD.
 const ONE: Cells = Cells { first: 1, over: 0 };
@@ -71,7 +68,7 @@ fn adder_step(d: Cells, a: Cells, b: Cells, k: u16, n: u8, at: usize, out: &mut 
     match k {
         0 => each_share(StepWord::XOR, H, a, b, n, at, out),
         1 => and_block(G, a, b, n, at, out),
-        2 => each_share(StepWord::SHL, P, H, ZERO, n, at, out),
+        2 => each_share(StepWord::SHL, P, H, Cells::ZERO, n, at, out),
         31 => each_share(StepWord::SHL, T, G, ONE, n, at, out),
         32 => each_share(StepWord::XOR, d, H, T, n, at, out),
         _ => round_step((k - 3) / 5, (k - 3) % 5, n, at, out),

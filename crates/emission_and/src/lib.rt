@@ -19,11 +19,8 @@ const Y: Cells = Cells {
 
 const Z: Cells = Cells {
     first: StepWord::Z,
-    over: 1,
+    ..Y
 };
-
-// A field that is 0 in each share.
-const ZERO: Cells = Cells { first: 0, over: 0 };
 
 // CONST 0 into t, and into u.
 const WIPE_T: u32 = StepWord::CONST * StepWord::KIND_UNIT
@@ -39,11 +36,11 @@ fn and_steps(d: Cells, a: Cells, b: Cells, n: u8, at: usize, out: &mut [u32]) ->
     requires room { Room out.old at (and_steps scratch n (cells_on d) (cells_on a) (cells_on b)) }
     ensures { Emits out.old at (and_steps scratch n (cells_on d) (cells_on a) (cells_on b)) out.new result }
 {
-    let at = each_share(StepWord::SHL, Y, b, ZERO, n, at, out);
+    let at = each_share(StepWord::SHL, Y, b, Cells::ZERO, n, at, out);
     let at = all_pairs(EachPair::Refresh, n, at, out);
     let at = each_share(StepWord::AND, Z, a, Y, n, at, out);
     let at = all_pairs(EachPair::Products(a), n, at, out);
-    each_share(StepWord::SHL, d, Z, ZERO, n, at, out)
+    each_share(StepWord::SHL, d, Z, Cells::ZERO, n, at, out)
 }
 
 // CONST 0 into AND's scratch cells: y and z of each share, t and u.
@@ -52,8 +49,8 @@ fn wiping(n: u8, at: usize, out: &mut [u32]) -> usize
     requires room { Room out.old at (translation.wiping (scratch_cells scratch n)) }
     ensures { Emits out.old at (translation.wiping (scratch_cells scratch n)) out.new result }
 {
-    let at = each_share(StepWord::CONST, Y, ZERO, ZERO, n, at, out);
-    let at = each_share(StepWord::CONST, Z, ZERO, ZERO, n, at, out);
+    let at = each_share(StepWord::CONST, Y, Cells::ZERO, Cells::ZERO, n, at, out);
+    let at = each_share(StepWord::CONST, Z, Cells::ZERO, Cells::ZERO, n, at, out);
     let at = put_word(WIPE_T, at, out);
     put_word(WIPE_U, at, out)
 }

@@ -51,8 +51,7 @@ fn put_up(w: u32, i: u8, at: usize, out: &mut [u32]) -> usize
     requires at_in_bounds { at < length out.old }
     ensures { Words out.old at ((w + i * 262656) ∷ []) out.new result }
 {
-    out[at] = w + (i as u32) * BOTH;
-    at + 1
+    put_word(w + (i as u32) * BOTH, at, out)
 }
 
 // u = a_i AND y_j

@@ -13,7 +13,13 @@ pub struct Cells {
     pub over: u16,
 }
 
+impl Cells {
+    // A field that is 0 in each share.
+    pub const ZERO: Cells = Cells { first: 0, over: 0 };
+}
+
 // Writes one word; the answer is the next place.
+// Slice and place are handed on side by side: each function on a struct that holds both would need a clause that it still holds the same slice.
 pub fn put_word(w: u32, at: usize, out: &mut [u32]) -> usize
     requires { at < length out.old }
     ensures { Words out.old at (w ∷ []) out.new result }

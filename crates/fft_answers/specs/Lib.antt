@@ -1,1 +1,2 @@
--- Nothing of its own: the answers stand in fft_numbers's specs.
+-- The answers themselves stand in fft_numbers's specs.
+pub mod inner

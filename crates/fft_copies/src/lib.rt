@@ -19,10 +19,8 @@ pub fn copy(
     requires { Inside n step at (length from.now) × Inside n stride place (length to.old) × (length from.now ≤ 65536) × (length to.old ≤ 65536) }
     ensures { to.new ≡ written stride place 0 (number_of n step at from.now) to.old }
 {
-    let mut i = 0;
-    while i < n {
+    for i in 0..n {
         to[stride * i + place] = from[step * i + at];
-        i += 1;
     }
 }
 
@@ -31,9 +29,7 @@ pub fn copy_within(n: usize, at: usize, step: usize, place: usize, stride: usize
     requires { Inside n step at (length cells.old) × Inside n stride place (length cells.old) × Apart n step at stride place × (length cells.old ≤ 65536) }
     ensures { cells.new ≡ written stride place 0 (number_of n step at cells.old) cells.old }
 {
-    let mut i = 0;
-    while i < n {
+    for i in 0..n {
         cells[stride * i + place] = cells[step * i + at];
-        i += 1;
     }
 }

@@ -3,12 +3,13 @@
 #![tactic(auto)]
 
 ghost use Rattle.std.specs.Prelude.{◌≡◌};
+ghost use Rattle.checks.specs.Answers.{answer_of};
 ghost use Rattle.fft_numbers.specs.Calls.{complex_call_answer, complex_result, complex_work, layer_call_answer, layer_numbers, layer_work};
 ghost use Rattle.fft_numbers.specs.Holds.{Transforms};
 ghost use Rattle.fft_numbers.specs.Means.{LayerMeans, OnSharesMeans};
 ghost use Rattle.fft_numbers.specs.RandomWords.{TransformWords};
 
-use checks::answer::Answer;
+use checks::refusal::{Counts, Refusal};
 use fft_all_pairs::layer_done;
 use fft_answers::{complex_answer, layer_answer};
 use fft_lent::product_done;
@@ -23,19 +24,17 @@ pub fn complex_product(
     res: &mut [u64],
     work: &mut [u64],
     tape: &[u64],
-) -> Answer
-    ensures answer { result ≡ complex_call_answer n x.now y.now res.old work.old tape.now }
+) -> Result<Counts, Refusal>
+    ensures answer { answer_of result ≡ complex_call_answer n x.now y.now res.old work.old tape.now }
     ensures res { res.new ≡ complex_result n x.now y.now res.old work.old tape.now }
     ensures work { work.new ≡ complex_work n x.now y.now res.old work.old tape.now }
     ensures holds { Transforms }
     ensures means { OnSharesMeans }
     ensures words { TransformWords }
 {
-    let answer = complex_answer(n, x.len(), y.len(), res.len(), work.len(), tape.len());
-    if answer.number == 0 {
-        product_done(n, x, y, res, work, tape);
-    }
-    answer
+    let counts = complex_answer(n, x.len(), y.len(), res.len(), work.len(), tape.len())?;
+    product_done(n, x, y, res, work, tape);
+    Ok(counts)
 }
 
 // One layer over `count` shared complex numbers at `distance`, in place: real part j of share i is word 2 count i + j, its imaginary part `count`
@@ -49,8 +48,8 @@ pub fn layer(
     factors: &[u64],
     work: &mut [u64],
     tape: &[u64],
-) -> Answer
-    ensures answer { result ≡ layer_call_answer n count distance numbers.old factors.now work.old tape.now }
+) -> Result<Counts, Refusal>
+    ensures answer { answer_of result ≡ layer_call_answer n count distance numbers.old factors.now work.old tape.now }
     ensures numbers { numbers.new ≡ layer_numbers n count distance numbers.old factors.now work.old tape.now }
     ensures work { work.new ≡ layer_work n count distance numbers.old factors.now work.old tape.now }
     ensures holds { Transforms }
@@ -58,7 +57,7 @@ pub fn layer(
     ensures means { OnSharesMeans }
     ensures words { TransformWords }
 {
-    let checked = layer_answer(
+    let (layer, counts) = layer_answer(
         n,
         count,
         distance,
@@ -66,9 +65,7 @@ pub fn layer(
         factors.len(),
         work.len(),
         tape.len(),
-    );
-    if checked.number == 0 {
-        layer_done(n, count, distance, numbers, factors, work, tape);
-    }
-    checked
+    )?;
+    layer_done(n, layer, numbers, factors, work, tape);
+    Ok(counts)
 }

@@ -6,9 +6,8 @@ ghost use Rattle.fft_numbers.specs.Calls.{complex_shares, complex_start, complex
 ghost use Rattle.fft_slots.specs.inner.Inner.{HeldIn};
 ghost use Rattle.fft_lent.specs.inner.Inner.{PartsOut};
 
-use fft_copies::copy;
 use fft_product::multiply_complex;
-use fft_slots::{A, B, C, D, HELD, IM, RE, SLOTS};
+use fft_slots::Slot;
 use masked_work::clear;
 use word::step_word::StepWord;
 
@@ -18,10 +17,10 @@ fn load(n: usize, x: &[u64], y: &[u64], work: &mut [u64])
     ensures { HeldIn n work.new (complex_start n x.now y.now) }
 {
     clear(work, StepWord::REGISTERS * n);
-    copy(n, x, 0, 2, work, HELD + A, SLOTS);
-    copy(n, x, 1, 2, work, HELD + B, SLOTS);
-    copy(n, y, 0, 2, work, HELD + C, SLOTS);
-    copy(n, y, 1, 2, work, HELD + D, SLOTS);
+    Slot::A.load(n, x, 0, 2, work);
+    Slot::B.load(n, x, 1, 2, work);
+    Slot::C.load(n, y, 0, 2, work);
+    Slot::D.load(n, y, 1, 2, work);
 }
 
 // The real and the imaginary part out of their slots.
@@ -29,8 +28,8 @@ fn store(n: usize, work: &[u64], res: &mut [u64])
     requires { (2 ≤ n) × (n ≤ 8) × (length work.now ≡ 512) × (length res.old ≡ 2 * n) }
     ensures { PartsOut n work.now res.new }
 {
-    copy(n, work, HELD + RE, SLOTS, res, 0, 2);
-    copy(n, work, HELD + IM, SLOTS, res, 1, 2);
+    Slot::Re.store(n, work, res, 0, 2);
+    Slot::Im.store(n, work, res, 1, 2);
 }
 
 // The whole product; the work slice is zeros afterwards.

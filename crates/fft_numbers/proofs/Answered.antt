@@ -1,5 +1,6 @@
--- What holds where an answer is done: sizes, lengths, and tape enough. Rests on checks' Passed, word's Small and Powers.
-use mathlib.Core.Path.{◌≡◌, sym, ap, ◌∙◌}
+-- What holds where an answer is done: sizes, lengths, and tape enough; and that a call that is refused changes nothing. Rests on checks' Passed, word's Small and Powers.
+use mathlib.Core.Path.{◌≡◌, refl, sym, ap, subst, ◌∙◌}
+use mathlib.Core.List.{List}
 use mathlib.Core.Bool.{true, not, ◌&&◌}
 use Prim.Native.Nat.{ℕ, ◌*◌, ◌≤◌}
 use native.Mathlib.Omega.{arith}
@@ -8,30 +9,15 @@ use borrow.Author.Tests.{ltb-false, eqb-true, eq-eqb, not-false}
 use Rattle.checks.specs.declared.answer.Answer.{Answer}
 use Rattle.word.specs.Layout.{is_share_count}
 use Rattle.word.proofs.Small.{share_range}
-use Rattle.checks.specs.Answers.{done, refused}
+use Rattle.checks.specs.declared.refusal.Refusal.{Refusal}
+use Rattle.checks.specs.declared.refusal.Refusal.TheVariants.{ShareCount, TooLong, BadWord, Length, Place, Tape, Layer, Head}
+use Rattle.checks.specs.Answers.{done, refused, refusal_of, after_call}
 use Rattle.checks.proofs.Passed.{passed}
 use Rattle.fft_numbers.specs.Layer.{is_layer, block_count}
 use Rattle.fft_numbers.specs.Calls.{complex_tape, complex_answer, layer_tape, layer_answer, plain_layer_answer}
 use Rattle.fft_numbers.proofs.Powers.{both}
 
-pub record PlainReady (N h numbers factors : ℕ) : Type 0 where
-  pub layer : is_layer N h ≡ true
-  pub numbers_are : numbers ≡ 2 * N
-  pub factors_are : factors ≡ 2 * block_count N h
-
-pub plain_ready : (N h numbers factors : ℕ) (a : Answer) → a ≡ plain_layer_answer N h numbers factors → a.number ≡ 0 → PlainReady N h numbers factors
-unfolding plain_layer_answer
-plain_ready N h numbers factors a e z =
-    let p₇ = passed (not (is_layer N h)) (refused 7) _ (λ e. omega arith) (sym (ap (λ (x : Answer). x.number) e) ∙ z) in
-    let p₄ = passed (not (eqb numbers (2 * N) && eqb factors (2 * block_count N h))) (refused 4) _ (λ e. omega arith) p₇.1 in
-    let l = both (eqb numbers (2 * N)) (eqb factors (2 * block_count N h)) (not-false _ p₄.0) in
-    record {
-      layer = not-false (is_layer N h) p₇.0;
-      numbers_are = eqb-true numbers (2 * N) l.0;
-      factors_are = eqb-true factors (2 * block_count N h) l.1;
-    }
-
--- and the other way
+-- where a layer on plain words is done
 pub plain_done : (N h numbers factors : ℕ) → is_layer N h ≡ true → numbers ≡ 2 * N → factors ≡ 2 * block_count N h → plain_layer_answer N h numbers factors ≡ done 0 0
 unfolding plain_layer_answer
 plain_done N h numbers factors e n f = rw (e, eq-eqb numbers (2 * N) n, eq-eqb factors (2 * block_count N h) f)
@@ -93,3 +79,17 @@ complex_ready n x y result work tape a e z =
       work_is = eqb-true work 512 m.1;
       enough = ltb-false tape (complex_tape n) p₆.0;
     }
+
+-- a call that is refused leaves what was lent as it was
+pub refused_keeps : (e : Refusal) {a : Answer} → refusal_of e ≡ a → (after before : List ℕ) → before ≡ after_call a after before
+refused_keeps e {a} q after before = subst (λ (x : Answer). before ≡ after_call x after before) q (by e)
+  where
+    by : (e : Refusal) → before ≡ after_call (refusal_of e) after before
+    by ShareCount = refl
+    by TooLong = refl
+    by (BadWord place) = refl
+    by Length = refl
+    by Place = refl
+    by Tape = refl
+    by Layer = refl
+    by Head = refl

@@ -24,17 +24,17 @@ either true q e = inl refl
 either false q e = inr e
 
 -- a test of which the first part is known
-pub stop : {p : Bool} (q : Bool) → p ≡ false → false ≡ p && q
-stop q e = sym (ap (λ (b : Bool). b && q) e)
-
 pub go_on : {p q r : Bool} → p ≡ true → r ≡ q → r ≡ p && q
 go_on {p} {q} e h = h ∙ sym (ap (λ (b : Bool). b && q) e)
 
--- a power of two
-a_power : (k s c : ℕ) → one_of k (map (λ e. 2 ^ e) (up_from s c)) ≡ true → (e : ℕ) × (k ≡ 2 ^ e)
-a_power k s zero h = let z : false ≡ true = h in (0, cc)
+-- a power of two, of which exponent
+pub a_power : (k s c : ℕ) → one_of k (map (λ e. 2 ^ e) (up_from s c)) ≡ true → (e : ℕ) × (k ≡ 2 ^ e) × (e < s + c)
+a_power k s zero h = let z : false ≡ true = h in (0, cc, absurd (cc))
 a_power k s (suc c) h =
-    ⊎_elim (λ (q : eqb k (2 ^ s) ≡ true). (s, eqb-true k (2 ^ s) q)) (λ (q : one_of k (map (λ e. 2 ^ e) (up_from (suc s) c)) ≡ true). a_power k (suc s) c q)
+    ⊎_elim (λ (q : eqb k (2 ^ s) ≡ true). (s, eqb-true k (2 ^ s) q, omega arith))
+    (λ (q : one_of k (map (λ e. 2 ^ e) (up_from (suc s) c)) ≡ true).
+    let r = a_power k (suc s) c q in
+    (r.0, r.1, omega (arith, r.2)))
     (either (eqb k (2 ^ s)) _ h)
 
 -- the powers from 2^e on
@@ -109,7 +109,7 @@ found e s (suc c) lo hi =
     or_true false h = h
 
 -- 2^e up to 1,024 is a power of two
-power_found : (e : ℕ) → 2 ^ e ≤ 1024 → is_power_of_two (2 ^ e) ≡ true
+pub power_found : (e : ℕ) → 2 ^ e ≤ 1024 → is_power_of_two (2 ^ e) ≡ true
 power_found e h = by (dec_lt e 11)
   where
     by : Dec (e < 11) → is_power_of_two (2 ^ e) ≡ true

@@ -1,5 +1,5 @@
 -- A layer on plain words: one pair's stores, and the loop over pairs. Rests on Laws and Powers.
-use mathlib.Core.Path.{◌≡◌, refl, sym, ap, ap₂, ◌∙◌}
+use mathlib.Core.Path.{◌≡◌, refl, sym, ap, ap₂, subst, ◌∙◌}
 use mathlib.Core.List.{List, map}
 use Prim.Native.Nat.{ℕ, ◌+◌, ◌*◌, ◌/◌, ◌<◌}
 use native.Mathlib.Nat.{zero-add}
@@ -12,10 +12,12 @@ use borrow.Author.Tests.{eq-eqb, ne_eqb}
 use Rattle.masking.specs.Translation.{up_from}
 use Rattle.masking.proofs.emitted.Rising.{length_from, get_d_from}
 use Rattle.binary64.specs.Sum.{sum}
-use Rattle.fft_numbers.specs.Acts.{with, flipped, run_plain}
+use Rattle.fft_numbers.specs.Acts.{Act, with, flipped, run_plain}
 use Rattle.fft_numbers.specs.Complex.{complex_re, complex_im}
 use Rattle.fft_numbers.specs.Layer.{pair_acts, pair_of, first_pairs, layer_acts}
 use Rattle.fft_numbers.specs.Calls.{plain_start, layer_words}
+use Rattle.fft_sizes.specs.declared.pair.Pair.{Pair}
+use Rattle.fft_sizes.specs.inner.Inner.{acts_of, IsPair}
 use Rattle.fft_plain.specs.inner.Inner.{PlainLent, PlainDone}
 use Rattle.fft_numbers.proofs.Laws.{plain_append}
 
@@ -66,8 +68,10 @@ module _ (N h : ℕ) (numbers factors : List ℕ) where
   pub none_done : length numbers ≡ 2 * N → PairsDone 0 numbers
   none_done e = record { size = e; each = λ j lj. refl }
 
-  pub one_done : (k : ℕ) {l l' : List ℕ} → PairsDone k l → PlainDone (2 * N) (pair_of N h factors k) l l' → PairsDone (k + 1) l'
-  one_done k {l} {l'} P D =
+  pub one_done : (k : ℕ) {l l' : List ℕ} → PairsDone k l → (p : Pair) → IsPair N h factors k p → PlainDone (2 * p.layer.count) (acts_of p) l l' → PairsDone (k + 1) l'
+  one_done k {l} {l'} P p I done =
+      let D : PlainDone (2 * N) (pair_of N h factors k) l l' =
+      subst (λ (cs : List Act). PlainDone (2 * N) cs l l') I.acts (subst (λ (m : ℕ). PlainDone (2 * m) (acts_of p) l l') I.count done) in
       let e = ap (λ (m : ℕ). run_plain (first_pairs N h factors m) (plain_start numbers)) (add-one k) ∙ plain_append (first_pairs N h factors k) (pair_of N h factors k) (plain_start numbers) in
       rw e (D _ P)
 

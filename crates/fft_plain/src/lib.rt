@@ -2,16 +2,17 @@
 #![tactic(auto)]
 
 ghost use Rattle.std.specs.Prelude.{◌≡◌};
+ghost use Rattle.checks.specs.Answers.{answer_of};
 ghost use Rattle.binary64.specs.Sum.{sum};
 ghost use Rattle.fft_numbers.specs.Acts.{flipped};
-ghost use Rattle.fft_numbers.specs.Calls.{plain_call_answer, plain_layer_answer, plain_numbers};
+ghost use Rattle.fft_numbers.specs.Calls.{plain_call_answer, plain_numbers};
 ghost use Rattle.fft_numbers.specs.Complex.{complex_im, complex_re};
 ghost use Rattle.fft_numbers.specs.Means.{LayerMeans};
 
 use crate::pairs::all_pairs;
-use checks::answer::Answer;
+use checks::refusal::{Counts, Refusal};
 use fft_numbers::SIGN;
-use fft_sizes::is_layer;
+use fft_sizes::layer::Layer;
 
 mod pairs;
 
@@ -41,35 +42,32 @@ pub fn product(a: u64, b: u64, c: u64, d: u64) -> Complex
     let bc = binary64_plain::product(b, c);
     let re = difference(ac, bd);
     let im = binary64_plain::sum(ad, bc);
-    Complex { re: re, im: im }
-}
-
-fn layer_answer(count: usize, distance: usize, numbers: usize, factors: usize) -> Answer
-    ensures { result ≡ plain_layer_answer count distance numbers factors }
-{
-    if !is_layer(count, distance) {
-        return Answer::refused(7);
-    }
-    if numbers != 2 * count {
-        return Answer::refused(4);
-    }
-    if factors != 2 * (count / (2 * distance)) {
-        return Answer::refused(4);
-    }
-    Answer::done(0, 0)
+    Complex { re, im }
 }
 
 // One layer over `count` complex numbers at `distance`: real parts and then imaginary parts, changed in place. `factors` has a factor for each
 // block of twice the distance, real parts and then imaginary ones. Turned down with 7 where count or distance is not a power of two, count is not
 // 2 to 1,024 or distance not below it, and with 4 where a slice has the wrong length; `numbers` is then as it was.
-pub fn layer(count: usize, distance: usize, numbers: &mut [u64], factors: &[u64]) -> Answer
-    ensures answer { result ≡ plain_call_answer count distance numbers.old factors.now }
+#[tactic(auto, using(fft_numbers::proofs::Means::layer_means), unfolding(fft_numbers::specs::Calls::plain_layer_answer))]
+pub fn layer(
+    count: usize,
+    distance: usize,
+    numbers: &mut [u64],
+    factors: &[u64],
+) -> Result<Counts, Refusal>
+    ensures answer { answer_of result ≡ plain_call_answer count distance numbers.old factors.now }
     ensures numbers { numbers.new ≡ plain_numbers count distance numbers.old factors.now }
     ensures holds { LayerMeans }
 {
-    let answer = layer_answer(count, distance, numbers.len(), factors.len());
-    if answer.number == 0 {
-        all_pairs(count, distance, numbers, factors);
+    let Some(layer) = Layer::new(count, distance) else {
+        return Err(Refusal::Layer);
+    };
+    if numbers.len() != 2 * count {
+        return Err(Refusal::Length);
     }
-    answer
+    if factors.len() != 2 * layer.blocks() {
+        return Err(Refusal::Length);
+    }
+    all_pairs(layer, numbers, factors);
+    Ok(Counts::NONE)
 }

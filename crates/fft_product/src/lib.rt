@@ -7,18 +7,18 @@ ghost use Rattle.fft_numbers.specs.Complex.{complex_acts};
 ghost use Rattle.fft_slots.specs.inner.Inner.{HeldDone};
 ghost use Rattle.fft_product.specs.inner.Inner.{four_products, two_sums};
 
-use fft_calls::{add, multiply};
-use fft_slots::{A, AC, AD, B, BC, BD, C, D, IM, RE, flip};
+use fft_calls::{Add, Multiply, call};
+use fft_slots::{Slot, flip};
 
 // Products ac, bd, ad, bc in this order, over the tape from `start` on; the answer is the next place.
 fn four_products(n: usize, tape: &[u64], start: usize, work: &mut [u64]) -> usize
     requires { (2 ≤ n) × (n ≤ 8) × (length work.old ≡ 512) × (start + tape_for n four_products ≤ length tape.now) }
     ensures { (result ≡ start + tape_for n four_products) × HeldDone n four_products (drop start tape.now) work.old work.new }
 {
-    let t = multiply(n, AC, A, C, tape, start, work);
-    let t = multiply(n, BD, B, D, tape, t, work);
-    let t = multiply(n, AD, A, D, tape, t, work);
-    multiply(n, BC, B, C, tape, t, work)
+    let t = call::<Multiply>(n, Slot::Ac, Slot::A, Slot::C, tape, start, work);
+    let t = call::<Multiply>(n, Slot::Bd, Slot::B, Slot::D, tape, t, work);
+    let t = call::<Multiply>(n, Slot::Ad, Slot::A, Slot::D, tape, t, work);
+    call::<Multiply>(n, Slot::Bc, Slot::B, Slot::C, tape, t, work)
 }
 
 // ac - bd, and then ad + bc, likewise.
@@ -26,9 +26,9 @@ fn two_sums(n: usize, tape: &[u64], start: usize, work: &mut [u64]) -> usize
     requires { (2 ≤ n) × (n ≤ 8) × (length work.old ≡ 512) × (start + tape_for n two_sums ≤ length tape.now) }
     ensures { (result ≡ start + tape_for n two_sums) × HeldDone n two_sums (drop start tape.now) work.old work.new }
 {
-    flip(n, BD, work);
-    let t = add(n, RE, AC, BD, tape, start, work);
-    add(n, IM, AD, BC, tape, t, work)
+    flip(n, Slot::Bd, work);
+    let t = call::<Add>(n, Slot::Re, Slot::Ac, Slot::Bd, tape, start, work);
+    call::<Add>(n, Slot::Im, Slot::Ad, Slot::Bc, tape, t, work)
 }
 
 // All six.

@@ -1,1 +1,2 @@
--- Nothing but the proofs of functions.
+-- Powers of two as the words of one bit (OneBit).
+pub mod OneBit

@@ -1,1 +1,2 @@
--- Nothing of its own: the sizes stand in fft_numbers's specs.
+-- What the sizes are in numbers stands in fft_numbers's specs.
+pub mod inner

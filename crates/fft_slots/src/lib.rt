@@ -4,7 +4,9 @@
 ghost use Rattle.std.specs.Prelude.{◌≡◌, ◌∷◌, [], ◌≤◌, ◌<◌, length};
 ghost use Rattle.masked_call.specs.Shares.{placed_in};
 ghost use Rattle.fft_numbers.specs.Acts.{Flip, Put};
-ghost use Rattle.fft_slots.specs.inner.Inner.{HeldDone, held_of};
+ghost use Rattle.fft_numbers.specs.Layout.{number_of};
+ghost use Rattle.fft_copies.specs.inner.Inner.{Inside, written};
+ghost use Rattle.fft_slots.specs.inner.Inner.{HeldDone, held_of, slot_at, slot_number, slot_step};
 
 use fft_copies::{copy, copy_within};
 use fft_numbers::SIGN;
@@ -16,63 +18,76 @@ pub const HELD: usize = 352;
 // Slots; the shares of a slot's number lie so far apart.
 pub const SLOTS: usize = 16;
 
-// The slots of the complex product: operands a + bi and c + di, the four products, and the result.
-pub const A: usize = 0;
+// What the slots hold: of the complex product its operands a + bi and c + di, the four products, and the result; of a layer u, u plus and u minus.
+#[derive(Clone, Copy)]
+pub enum Slot {
+    A,
+    B,
+    C,
+    D,
+    Ac,
+    Bd,
+    Ad,
+    Bc,
+    Re,
+    Im,
+    URe,
+    UIm,
+    PlusRe,
+    PlusIm,
+    MinusRe,
+    MinusIm,
+}
 
-pub const B: usize = 1;
+impl Slot {
+    // The cell of share 0.
+    pub fn cell(self) -> usize
+        ensures at { result ≡ slot_at (slot_number self) }
+        ensures few { result < 368 }
+    {
+        HELD + self as usize
+    }
 
-pub const C: usize = 2;
+    // Into it, the shares that lie `step` apart from `at` on.
+    pub fn load(self, n: usize, from: &[u64], at: usize, step: usize, work: &mut [u64])
+        requires { (n ≤ 8) × Inside n step at (length from.now) × (length from.now ≤ 65536) × (length work.old ≡ 512) }
+        ensures { work.new ≡ written slot_step (slot_at (slot_number self)) 0 (number_of n step at from.now) work.old }
+    {
+        copy(n, from, at, step, work, self.cell(), SLOTS);
+    }
 
-pub const D: usize = 3;
+    // Its shares to where they lie `step` apart from `at` on.
+    pub fn store(self, n: usize, work: &[u64], to: &mut [u64], at: usize, step: usize)
+        requires { (n ≤ 8) × Inside n step at (length to.old) × (length to.old ≤ 65536) × (length work.now ≡ 512) }
+        ensures { to.new ≡ written step at 0 (held_of n (slot_number self) work.now) to.old }
+    {
+        copy(n, work, self.cell(), SLOTS, to, at, step);
+    }
+}
 
-pub const AC: usize = 4;
-
-pub const BD: usize = 5;
-
-pub const AD: usize = 6;
-
-pub const BC: usize = 7;
-
-pub const RE: usize = 8;
-
-pub const IM: usize = 9;
-
-// Of a layer: u, u plus and u minus.
-pub const U_RE: usize = 10;
-
-pub const U_IM: usize = 11;
-
-pub const PLUS_RE: usize = 12;
-
-pub const PLUS_IM: usize = 13;
-
-pub const MINUS_RE: usize = 14;
-
-pub const MINUS_IM: usize = 15;
-
-// A plain word into slot k: share 0, with zeros beside it.
-pub fn put(n: usize, k: usize, word: u64, work: &mut [u64])
-    requires { (2 ≤ n) × (n ≤ 8) × (k < 16) × (length work.old ≡ 512) }
-    ensures { HeldDone n (Put k word ∷ []) [] work.old work.new }
+// A plain word into a slot: share 0, with zeros beside it.
+pub fn put(n: usize, slot: Slot, word: u64, work: &mut [u64])
+    requires { (2 ≤ n) × (n ≤ 8) × (length work.old ≡ 512) }
+    ensures { HeldDone n (Put (slot_number slot) word ∷ []) [] work.old work.new }
 {
     let mut shares = [0u64; 8];
     shares[0] = word;
-    copy(n, &shares, 0, 1, work, HELD + k, SLOTS);
+    slot.load(n, &shares, 0, 1, work);
 }
 
-// The sign bit of slot k's number, in share 0 alone.
-pub fn flip(n: usize, k: usize, work: &mut [u64])
-    requires { (2 ≤ n) × (n ≤ 8) × (k < 16) × (length work.old ≡ 512) }
-    ensures { HeldDone n (Flip k ∷ []) [] work.old work.new }
+// The sign bit of a slot's number, in share 0 alone.
+pub fn flip(n: usize, slot: Slot, work: &mut [u64])
+    requires { (2 ≤ n) × (n ≤ 8) × (length work.old ≡ 512) }
+    ensures { HeldDone n (Flip (slot_number slot) ∷ []) [] work.old work.new }
 {
-    work[HELD + k] = work[HELD + k] ^ SIGN;
+    work[slot.cell()] ^= SIGN;
 }
 
 // The numbers of slots a and b in registers 0 and 1.
-pub fn operands(n: usize, a: usize, b: usize, work: &mut [u64])
-    requires { (2 ≤ n) × (n ≤ 8) × (a < 16) × (b < 16) × (length work.old ≡ 512) }
-    ensures { work.new ≡ placed_in 1 0 (held_of n b work.old) (placed_in 0 0 (held_of n a work.old) work.old) }
+pub fn operands(n: usize, a: Slot, b: Slot, work: &mut [u64])
+    requires { (2 ≤ n) × (n ≤ 8) × (length work.old ≡ 512) }
+    ensures { work.new ≡ placed_in 1 0 (held_of n (slot_number b) work.old) (placed_in 0 0 (held_of n (slot_number a) work.old) work.old) }
 {
-    copy_within(n, HELD + a, SLOTS, 0, StepWord::REGISTERS, work);
-    copy_within(n, HELD + b, SLOTS, 1, StepWord::REGISTERS, work);
+    copy_within(n, a.cell(), SLOTS, 0, StepWord::REGISTERS, work);
+    copy_within(n, b.cell(), SLOTS, 1, StepWord::REGISTERS, work);
 }

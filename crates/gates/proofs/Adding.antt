@@ -1,10 +1,9 @@
 -- ADD's blocks in order: what is left of them after each call of the code that does them. Rests on Named for registers as places, and on and_parts' Running for steps
 -- done in parts.
-use mathlib.Core.Path.{◌≡◌, ◌∙◌}
+use mathlib.Core.Path.{◌∙◌}
 use mathlib.Core.List.{List, [], ◌∷◌, ◌++◌, map}
-use Prim.Native.Nat.{ℕ, ◌≤◌}
+use Prim.Native.Nat.{ℕ}
 use native.Mathlib.Omega.{arith}
-use lib.ListN.{length}
 use Rattle.word.specs.declared.step.Step.{Step}
 use Rattle.word.specs.declared.step.Step.TheVariants.{Xor, And, Shl}
 use Rattle.masking.specs.Translation.{scratch, blocks, block, shares, adding, r_h, r_g, r_p, r_t, rounds}
@@ -14,7 +13,7 @@ use Rattle.and_parts.specs.declared.once.Place.{Place}
 use Rattle.and_parts.specs.inner.Effects.{Enough, Ran, Still, at, once_step}
 use Rattle.and_parts.proofs.Running.{Left, start, part, enough, whole, blocks_part, blocks_enough}
 use Rattle.and_many.specs.inner.Asked.{Asked, and_of}
-use Rattle.gates.specs.inner.PlanWords.{OfPlan}
+use Rattle.gates.specs.inner.PlanWords.{Adds}
 use Rattle.gates.proofs.Named.{Named, helper_at, helper_named, plan_named, plan_placed, once_ran, and_ran, and_asked}
 
 -- the helper registers
@@ -33,16 +32,6 @@ T = helper_named 3 (omega arith)
 -- a step on each share of three places
 abbrev Each : Op → ℕ → Place → Place → Place → List ℕ → List ℕ → Type 0
 Each o n p q r = Still (map (once_step o (at p) (at q) (at r)) (shares n))
-
--- what ADD asks
-pub record Adds (n : ℕ) (d a b : Place) (tape : List ℕ) (t : ℕ) (cells : List ℕ) : Type 0 where
-  pub least : 2 ≤ n
-  pub most : n ≤ 8
-  pub size : length cells ≡ 512
-  pub to : OfPlan d
-  pub left : OfPlan a
-  pub right : OfPlan b
-  pub words : Enough tape t (blocks scratch n (adding d.base a.base b.base))
 
 module _ {n : ℕ} {d a b : Place} {tape : List ℕ} {t : ℕ} {cells : List ℕ} (h : Adds n d a b tape t cells) where
   -- all of ADD's blocks; those behind the rounds, from the rounds on, from the copy of H on, and the AND before it

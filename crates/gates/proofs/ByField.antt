@@ -13,7 +13,7 @@ use Rattle.masking.specs.Machine.{steps_of}
 use Rattle.and_parts.specs.declared.once.Place.{Place}
 use Rattle.and_parts.specs.inner.Effects.{Enough, Ran, placed}
 use Rattle.and_many.specs.inner.Asked.{Asked, and_of}
-use Rattle.gates.specs.inner.PlanWords.{GoodPlanWord, OfPlan, is_gate}
+use Rattle.gates.specs.inner.PlanWords.{Adds, GoodPlanWord, is_gate}
 use Rattle.masking.proofs.emitted.Tests.{or_elim}
 use Rattle.and_parts.proofs.Running.{ran_as}
 use Rattle.gates.proofs.Named.{Named, of_plan, plan_register_named, plan_placed, and_ran, and_asked}
@@ -68,13 +68,18 @@ module _ {w n : ℕ} {cells : List ℕ} {p q r : Place} (F : Fields w n cells p 
     add_steps : blocks scratch n (adding (field_d w) (field_a w) (field_b w)) ≡ blocks scratch n (adding p.base q.base r.base)
     add_steps = λ i. blocks scratch n (adding (sym F.d.0 i) (sym F.a.0 i) (sym F.b.0 i))
 
-    pub add_asks : (tape : List ℕ) (t : ℕ) → Enough tape t (steps_of (words_for n (plan_step w)))
-        → ((n ≤ 8) × (length cells ≡ 512) × OfPlan p × OfPlan q × OfPlan r × (2 ≤ n)) × Enough tape t (blocks scratch n (adding p.base q.base r.base))
+    pub add_asks : (tape : List ℕ) (t : ℕ) → Enough tape t (steps_of (words_for n (plan_step w))) → Adds n p q r tape t cells
     add_asks tape t e =
-        let h = registers add_is in (
-          (F.pre.2, F.pre.3, of_plan p (field_d w) F.d.0 F.d.1 h.0, of_plan q (field_a w) F.a.0 F.a.1 h.1.0, of_plan r (field_b w) F.b.0 F.b.1 h.1.1.0, F.pre.1),
-          subst (Enough tape t) add_steps (word_enough add_is n F.pre.1 F.pre.2 tape t e),
-        )
+        let h = registers add_is in
+        record {
+          least = F.pre.1;
+          most = F.pre.2;
+          size = F.pre.3;
+          to = of_plan p (field_d w) F.d.0 F.d.1 h.0;
+          left = of_plan q (field_a w) F.a.0 F.a.1 h.1.0;
+          right = of_plan r (field_b w) F.b.0 F.b.1 h.1.1.0;
+          words = subst (Enough tape t) add_steps (word_enough add_is n F.pre.1 F.pre.2 tape t e);
+        }
 
     pub add_leaves : {tape after : List ℕ} {t t' : ℕ} → Ran (blocks scratch n (adding p.base q.base r.base)) tape t cells after t' → Done tape t after t'
     add_leaves h = word_ran add_is n F.pre.1 F.pre.2 (ran_as (sym add_steps) h)

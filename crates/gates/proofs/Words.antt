@@ -1,5 +1,6 @@
 -- A plan word that is not bad, by its kind: its step, the ranges of its fields, and its share steps.
 -- Rests on masking's Steps and Counts.
+use Rattle.std.specs.Prelude.{Option, Some, None}
 use mathlib.Core.Path.{◌≡◌, refl, sym, ap, ◌∙◌, subst}
 use mathlib.Core.Bool.{Bool, true, false, not}
 use mathlib.Core.List.{List, [], ◌∷◌, append-nil}
@@ -7,8 +8,6 @@ use Prim.Native.Nat.{ℕ, ◌+◌, ◌*◌, ◌≤◌, ◌<◌}
 use lib.Dec.{T, eqb}
 use Rattle.word.specs.declared.step.Step.{Step}
 use Rattle.word.specs.declared.step.Step.TheVariants.{Const, Xor, And, Not, Shl, Shr, Spread, Add}
-use Rattle.word.specs.declared.step.Decoded.{Decoded}
-use Rattle.word.specs.declared.step.Decoded.TheVariants.{Good, Bad}
 use Rattle.word.specs.Encoding.{kind_of, bit27, field_d, field_a, field_b, either, row, named, held, kind_number, number_fits, within, in_plan, plan_step}
 use Rattle.word.specs.Table.{dest, reads, Each}
 use Rattle.word.specs.Layout.{tape_of}
@@ -23,7 +22,7 @@ use Rattle.and_parts.proofs.Running.{still_ran}
 
 -- ---- a word and its step
 pub record Word (w : ℕ) (s : Step) : Type 0 where
-  pub apart : plan_step w ≡ Good s
+  pub apart : plan_step w ≡ Some s
   pub in_range : T (in_plan s)
 
 -- its fields name registers, and its number fits
@@ -37,12 +36,12 @@ module _ {w : ℕ} {s : Step} (W : Word w s) where
   pub fits : T (number_fits s)
   fits = within_number 32 s range
 
-by_row : (t q : Bool) (r : Decoded) (s : Step) → IsGood (held in_plan (either t r Bad)) → r ≡ either q (Good s) Bad → (held in_plan (either t r Bad) ≡ Good s) × T (in_plan s)
+by_row : (t q : Bool) (r : Option Step) (s : Step) → IsGood (held in_plan (either t r None)) → r ≡ either q (Some s) None → (held in_plan (either t r None) ≡ Some s) × T (in_plan s)
 by_row false q r s h e = absurd h
-by_row true false r s h e = absurd (subst (λ (d : Decoded). IsGood (held in_plan d)) e h)
-by_row true true r s h e = let k = by (in_plan s) (subst (λ (d : Decoded). IsGood (held in_plan d)) e h) in (ap (held in_plan) e ∙ k.0, k.1)
+by_row true false r s h e = absurd (subst (λ (d : Option Step). IsGood (held in_plan d)) e h)
+by_row true true r s h e = let k = by (in_plan s) (subst (λ (d : Option Step). IsGood (held in_plan d)) e h) in (ap (held in_plan) e ∙ k.0, k.1)
   where
-    by : (p : Bool) → IsGood (either p (Good s) Bad) → (either p (Good s) Bad ≡ Good s) × T p
+    by : (p : Bool) → IsGood (either p (Some s) None) → (either p (Some s) None ≡ Some s) × T p
     by true h = (refl, tt)
     by false h = absurd h
 
@@ -56,7 +55,7 @@ module _ (w : ℕ) (good : GoodPlanWord w) where
   abbrev b : ℕ
   b = field_b w
 
-  word_is : (q : Bool) (s : Step) → row (kind_of w) d a b ≡ either q (Good s) Bad → Word w s
+  word_is : (q : Bool) (s : Step) → row (kind_of w) d a b ≡ either q (Some s) None → Word w s
   unfolding named
   word_is q s e =
       let r = by_row (eqb (bit27 w) 0) q (row (kind_of w) d a b) s good e in
@@ -98,7 +97,7 @@ module _ (w : ℕ) (good : GoodPlanWord w) where
 module _ {w : ℕ} {s : Step} (is : Word w s) (n : ℕ) (least : 2 ≤ n) (most : n ≤ 8) where
   word_steps : steps_of (words_for n (plan_step w)) ≡ blocks scratch n (laid_out s)
   unfolding translated
-  word_steps = ap (λ (x : Decoded). steps_of (words_for n x)) is.apart ∙ steps_of_words (translated n s) (step_counts n least most s is.in_range).good
+  word_steps = ap (λ (x : Option Step). steps_of (words_for n x)) is.apart ∙ steps_of_words (translated n s) (step_counts n least most s is.in_range).good
 
   pub word_enough : (tape : List ℕ) (t : ℕ) → Enough tape t (steps_of (words_for n (plan_step w))) → Enough tape t (blocks scratch n (laid_out s))
   word_enough tape t = subst (Enough tape t) word_steps

@@ -9,7 +9,7 @@ ghost use Rattle.gates.specs.inner.PlanWords.{GoodPlanWord};
 
 use crate::add::add_shares;
 use and_parts::once::Place;
-use and_shares::and::and_of_registers;
+use and_shares::and::and_of;
 use word::step_word::StepWord;
 
 // A register's shares.
@@ -31,7 +31,7 @@ pub fn and_done(w: u32, n: usize, tape: &[u64], t: usize, cells: &mut [u64]) -> 
     let d = register((w >> StepWord::D_AT) % StepWord::FIELD);
     let a = (w >> StepWord::A_AT) % StepWord::FIELD;
     let b = w % StepWord::FIELD;
-    and_of_registers(d, a as usize, b as usize, n, tape, t, cells)
+    and_of::<{ StepWord::REGISTERS }>(d, a as usize, b as usize, n, tape, t, cells)
 }
 
 // An ADD word's, likewise.

@@ -11,7 +11,12 @@ use lib.ListN.{length, take, drop, length-append, take-append-drop, drop_of_leng
 use lib.Seq.{drop-drop}
 use borrow.Author.Tests.{leb-true, leb-false, eqb-true, eqb-false, ne_eqb, lt-leb}
 use Rattle.word.specs.Layout.{plan_max}
-use Rattle.checks.specs.Answers.{kept_unless}
+use Rattle.std.specs.Prelude.{Ok, Err}
+use Rattle.checks.specs.declared.answer.Answer.{Answer}
+use Rattle.checks.specs.declared.refusal.Refusal.{Refusal}
+use Rattle.checks.specs.declared.refusal.Refusal.TheVariants.{ShareCount, TooLong, BadWord, Length, Place, Tape, Layer, Head}
+use Rattle.checks.specs.declared.refusal.Counts.{Counts}
+use Rattle.checks.specs.Answers.{kept_unless, answer_of, refusal_of}
 use Rattle.translation.specs.Calls.{measured}
 use Rattle.translation.proofs.Counted.{accepted}
 use Rattle.listing_input.specs.Input.{list_answer, count_of, plan_read}
@@ -27,6 +32,16 @@ use Rattle.listing_parts.proofs.Parts.{fit_some, fitted_most}
 use Rattle.listing.proofs.Opened.{opening_lines_most}
 
 -- ---- by the answer's cases
+
+refused_number : (r : Refusal) → (refusal_of r).number ≡ 0 → ⊥
+refused_number ShareCount h = omega arith
+refused_number TooLong h = omega arith
+refused_number (BadWord place) h = omega arith
+refused_number Length h = omega arith
+refused_number Place h = omega arith
+refused_number Tape h = omega arith
+refused_number Layer h = omega arith
+refused_number Head h = omega arith
 
 module _ (input : List ℕ) where
   pub listed_taken : (list_answer input).number ≡ 0 → listed_words input ≡ plan_read input
@@ -44,6 +59,23 @@ module _ (input : List ℕ) where
   pub opening_refused : ((list_answer input).number ≡ 0 → ⊥) → opening_of input ≡ refused_line (list_answer input).number
   unfolding opening_of
   opening_refused h = rw (ne_eqb (list_answer input).number 0 h)
+
+  -- the same by the call's result
+  module _ {counts : Counts} (e : answer_of (Ok counts) ≡ list_answer input) where
+    pub done : (list_answer input).number ≡ 0
+    done = sym (ap (λ (a : Answer). a.number) e)
+
+    pub opening_done : opening_of input ≡ opening_lines (count_of input) counts.words counts.tape
+    opening_done =
+        opening_taken done
+        ∙ ap₂ (λ (words tape : ℕ). opening_lines (count_of input) words tape) (ap (λ (a : Answer). a.words) (sym e)) (ap (λ (a : Answer). a.tape) (sym e))
+
+  module _ (r : Refusal) (e : answer_of (Err r) ≡ list_answer input) where
+    pub not_done : (list_answer input).number ≡ 0 → ⊥
+    not_done h = refused_number r (ap (λ (a : Answer). a.number) e ∙ h)
+
+    pub opening_turned_down : opening_of input ≡ refused_line (refusal_of r).number
+    opening_turned_down = opening_refused not_done ∙ ap (λ (a : Answer). refused_line a.number) (sym e)
 
   -- a share count that is taken is 8 at most
   pub count_most : (list_answer input).number ≡ 0 → count_of input ≤ 8

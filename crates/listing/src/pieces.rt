@@ -11,13 +11,14 @@ use word::step_word::StepWord;
 fn listed_words(input: &[u8], plan: &mut [u32]) -> usize
     ensures { Wrote (listed_words input.now) plan.old plan.new result }
 {
-    if list_answer(input).number != 0 {
-        return 0;
+    match list_answer(input) {
+        Ok(_) => plan_words(input, plan),
+        Err(_) => 0,
     }
-    plan_words(input, plan)
 }
 
-// What a piece comes to: the bytes written, the number of the piece that follows, and whether none does.
+// What a piece comes to: the bytes written, the number of the piece that follows, and whether none does. `ListsPiece` fixes that number for the last
+// piece too, so it is no Option.
 #[derive(Clone, Copy)]
 pub struct Piece {
     pub bytes: usize,

@@ -1,11 +1,12 @@
 -- The lines of share words: nine bytes each, one after the other. Rests on Placed.
 use mathlib.Core.Path.{◌≡◌, refl, sym, ap, ◌∙◌}
 use mathlib.Core.List.{List, [], ◌∷◌, ◌++◌, append_assoc}
-use Prim.Native.Nat.{ℕ, ◌+◌, ◌*◌, ◌≤◌, ◌<◌}
+use Prim.Native.Nat.{ℕ, ◌+◌, ◌-◌, ◌*◌, ◌≤◌, ◌<◌}
 use native.Mathlib.Numerals.{add-one}
 use native.Mathlib.Omega.{arith}
-use lib.ListN.{length, drop, get_or, length-append}
-use lib.Seq.{sets, drop-cons}
+use lib.ListN.{length, take, drop, get_or, length-append}
+use lib.Seq.{sets, sets-eq, drop-cons}
+use borrow.Rule.Slice.PartMut.{put_mid, Post-is}
 use Rattle.listing_lines.specs.Lines.{hex_line, hex_lines}
 use Rattle.listing_lines.proofs.Placed.{Left, renamed, part, room}
 
@@ -37,3 +38,10 @@ pub line_fits : (ws : List ℕ) {out₀ out : List ℕ} {at : ℕ} (i : ℕ) →
     → length (hex_lines ws) ≤ length out₀ → at + 9 ≤ length out
 line_fits ws i l h r =
     omega (arith, room (hex_line (get_or ws i 0)) (hex_lines (drop (i + 1) ws)) (renamed (lines_at ws i h) l) (omega arith), line_length (get_or ws i 0))
+
+-- a line put in its place
+pub line_put : (w : ℕ) (out : List ℕ) (at : ℕ) → at + 9 ≤ length out → put_mid at (at + 9 - at) out (hex_line w) ≡ sets out at (hex_line w)
+line_put w out at h =
+    ap (λ (r : List ℕ). take at out ++ (hex_line w ++ r)) (Post-is at (at + 9) out (omega arith))
+    ∙ ap (λ (k : ℕ). take at out ++ (hex_line w ++ drop (at + k) out)) (sym (line_length w))
+    ∙ sym (sets-eq (hex_line w) out at (omega (arith, line_length w)) ∙ append_assoc (take at out) (hex_line w) (drop (at + length (hex_line w)) out))

@@ -1,35 +1,26 @@
--- The input's plan words: where each stands, and how many there are. Rests on Placed.
+-- The input's plan words: those of its chunks of four bytes, and how many there are. Assumes nothing.
 use mathlib.Core.Path.{◌≡◌, refl, sym, ap, ap₂, ◌∙◌}
-use mathlib.Core.List.{List, [], ◌∷◌}
-use Prim.Native.Nat.{ℕ, ◌+◌, ◌-◌, ◌*◌, ◌/◌, ◌≤◌, ◌<◌}
-use native.Mathlib.Nat.{add-zero}
+use mathlib.Core.List.{List, [], ◌∷◌, map}
+use Prim.Native.Nat.{ℕ, zero, suc, ◌-◌, ◌/◌}
 use native.Mathlib.Omega.{arith}
-use lib.ListN.{length, drop, get_or, set, length-drop}
-use lib.Seq.{get_or-drop, drop-drop}
+use lib.ListN.{length, take, drop, get_or, length-drop}
+use lib.Seq.{take_all}
+use Rattle.std.specs.Int.{w32, from_le_bytes}
+use Rattle.std.specs.Simd.{first_chunks}
 use Rattle.listing_input.specs.Input.{words_of, count_of, plan_read}
-use Rattle.listing_lines.specs.Writing.{Appends}
-use Rattle.listing_lines.proofs.Placed.{Left, renamed, part, whole}
 
-pub words_short : (l : List ℕ) → length l < 4 → words_of l ≡ []
-words_short [] h = refl
-words_short (a ∷ []) h = refl
-words_short (a ∷ b ∷ []) h = refl
-words_short (a ∷ b ∷ c ∷ []) h = refl
-words_short (a ∷ b ∷ c ∷ d ∷ rest) h = absurd (omega arith)
-
-words_first : (l : List ℕ) → 4 ≤ length l
-    → words_of l ≡ (get_or l 0 0 + 256 * get_or l 1 0 + 65536 * get_or l 2 0 + 16777216 * get_or l 3 0) ∷ words_of (drop 4 l)
-words_first [] h = absurd (omega arith)
-words_first (a ∷ []) h = absurd (omega arith)
-words_first (a ∷ b ∷ []) h = absurd (omega arith)
-words_first (a ∷ b ∷ c ∷ []) h = absurd (omega arith)
-words_first (a ∷ b ∷ c ∷ d ∷ rest) h = refl
-
--- the word at byte k
-pub words_at : (l : List ℕ) (k : ℕ) → k + 4 ≤ length l
-    → words_of (drop k l)
-    ≡ (get_or l k 0 + 256 * get_or l (k + 1) 0 + 65536 * get_or l (k + 2) 0 + 16777216 * get_or l (k + 3) 0) ∷ words_of (drop (k + 4) l)
-words_at l k h = words_first (drop k l) (omega (arith, length-drop k l)) ∙ simp (get_or-drop, drop-drop, add-zero)
+-- the words are those of the chunks of four bytes
+pub words_chunks : (k : ℕ) (l : List ℕ) → k ≡ length l / 4 → map (from_le_bytes w32) (first_chunks 4 k l) ≡ words_of l
+words_chunks zero [] h = refl
+words_chunks zero (a ∷ []) h = refl
+words_chunks zero (a ∷ b ∷ []) h = refl
+words_chunks zero (a ∷ b ∷ c ∷ []) h = refl
+words_chunks zero (a ∷ b ∷ c ∷ d ∷ rest) h = absurd (omega arith)
+words_chunks (suc k) [] h = absurd (omega arith)
+words_chunks (suc k) (a ∷ []) h = absurd (omega arith)
+words_chunks (suc k) (a ∷ b ∷ []) h = absurd (omega arith)
+words_chunks (suc k) (a ∷ b ∷ c ∷ []) h = absurd (omega arith)
+words_chunks (suc k) (a ∷ b ∷ c ∷ d ∷ rest) h = ap₂ (λ (w : ℕ) (ws : List ℕ). w ∷ ws) (omega arith) (words_chunks k rest (omega arith))
 
 pub words_count : (l : List ℕ) → length (words_of l) ≡ length l / 4
 words_count [] = refl
@@ -51,18 +42,11 @@ plan_behind (n ∷ rest) = refl
 pub plan_count : (input : List ℕ) → length (plan_read input) ≡ (length input - 1) / 4
 plan_count input = ap length (plan_behind input) ∙ words_count (drop 1 input) ∙ ap (λ (k : ℕ). k / 4) (length-drop 1 input)
 
--- one more word stands in the plan
-pub words_on : (input : List ℕ) {plan₀ plan : List ℕ} (i : ℕ) {w : ℕ} → Left (plan_read input) plan₀ 0 (words_of (drop (1 + 4 * i) input)) plan i
-    → 1 + 4 * i + 4 ≤ length input
-    → w ≡ get_or input (1 + 4 * i) 0 + 256 * get_or input (1 + 4 * i + 1) 0 + 65536 * get_or input (1 + 4 * i + 2) 0 + 16777216 * get_or input (1 + 4 * i + 3) 0
-    → Left (plan_read input) plan₀ 0 (words_of (drop (1 + 4 * (i + 1)) input)) (set plan i w) (i + 1)
-words_on input i {w} l h e =
-    let k : 1 + 4 * i + 4 ≡ 1 + 4 * (i + 1) = omega arith in
-    part (w ∷ []) (words_of (drop (1 + 4 * (i + 1)) input))
-    (renamed (words_at input (1 + 4 * i) h ∙ ap₂ (λ (x j : ℕ). x ∷ words_of (drop j input)) (sym e) k) l)
-    (record { written = refl; ends = refl })
-
--- all words stand there
-pub words_done : (input : List ℕ) {plan₀ plan : List ℕ} (i : ℕ) → Left (plan_read input) plan₀ 0 (words_of (drop (1 + 4 * i) input)) plan i
-    → length input ≤ 1 + 4 * i + 3 → Appends (plan_read input) plan₀ 0 plan i
-words_done input i l h = whole (renamed (words_short (drop (1 + 4 * i) input) (omega (arith, length-drop (1 + 4 * i) input))) l)
+-- bytes as the code has them behind the first
+pub chunks_read : (input : List ℕ) {cs : List (List ℕ)}
+    → cs ≡ first_chunks 4 (length (take (length input - 1) (drop 1 input)) / 4) (take (length input - 1) (drop 1 input))
+    → map (from_le_bytes w32) cs ≡ plan_read input
+chunks_read input e =
+    let behind = take_all (length input - 1) (drop 1 input) (omega (arith, length-drop 1 input)) in
+    ap (map (from_le_bytes w32)) (e ∙ ap (λ (b : List ℕ). first_chunks 4 (length b / 4) b) behind)
+    ∙ words_chunks (length (drop 1 input) / 4) (drop 1 input) refl ∙ sym (plan_behind input)

@@ -1,28 +1,24 @@
--- Decimal digits, the last one split off. Assumes nothing.
-use mathlib.Core.Path.{◌≡◌, ap}
+-- Decimal digits: those that std writes of a number below 2^64, and 20 at most. Assumes nothing.
+use mathlib.Core.Path.{◌≡◌, sym}
 use mathlib.Core.Bool.{Bool, true, false, cond}
-use mathlib.Core.List.{List, [], ◌∷◌, ◌++◌}
-use Prim.Native.Nat.{ℕ, zero, suc, ◌+◌, ◌-◌, ◌/◌, ◌%◌, ◌≤◌, ◌<◌}
+use mathlib.Core.List.{[], ◌∷◌, ◌++◌}
+use Prim.Native.Nat.{ℕ, zero, suc, ◌+◌, ◌/◌, ◌%◌, ◌^◌, ◌≤◌, ◌<◌}
 use native.Mathlib.Omega.{arith}
 use lib.Dec.{ltb}
 use lib.ListN.{length, length-append}
 use borrow.Author.Tests.{lt-ltb, le-ltb}
+use Rattle.std.specs.Fmt as std
+use Rattle.std.proofs.lemmas.Fmt.{AppendsLastDigit, decimal_from_appends, length-decimal-le}
 use Rattle.listing_lines.specs.Lines.{decimal_with, decimal}
-use Rattle.listing_lines.specs.Writing.{Appends}
 
--- a number of one digit
-pub one_digit : (k n : ℕ) → 0 < k → n < 10 → decimal_with k n ≡ (48 + n) ∷ []
-one_digit zero n h l = absurd (omega arith)
-one_digit (suc k) n h l = rw (lt-ltb n 10 l)
+appends_last : AppendsLastDigit decimal_with
+appends_last = record { one = λ k n l. rw (lt-ltb n 10 l); more = λ k n l. rw (le-ltb n 10 l) }
 
--- a number of several
-pub last_digit : (k n : ℕ) → 0 < k → 10 ≤ n → decimal_with k n ≡ decimal_with (k - 1) (n / 10) ++ ((48 + n % 10) ∷ [])
-last_digit zero n h l = absurd (omega arith)
-last_digit (suc k) n h l =
-    let e : k ≡ suc k - 1 = omega arith in
-    rw (le-ltb n 10 l) (ap (λ (j : ℕ). decimal_with j (n / 10) ++ ((48 + n % 10) ∷ [])) e)
+pub decimal_is : (n : ℕ) → n < 2 ^ 64 → std.decimal n ≡ decimal n
+unfolding decimal
+decimal_is n h = sym (decimal_from_appends decimal_with appends_last 20 n h (length-decimal-le 20 n (omega arith) (omega arith) h))
 
-pub digits_most : (k n : ℕ) → length (decimal_with k n) ≤ k
+digits_most : (k n : ℕ) → length (decimal_with k n) ≤ k
 digits_most zero n = omega arith
 digits_most (suc k) n = by (ltb n 10) (digits_most k (n / 10))
   where
@@ -33,8 +29,3 @@ digits_most (suc k) n = by (ltb n 10) (digits_most k (n / 10))
 pub decimal_most : (n : ℕ) → length (decimal n) ≤ 20
 unfolding decimal
 decimal_most n = digits_most 20 n
-
--- a label and a number take 20 bytes more than the label at most
-pub labelled_ends : (label : List ℕ) (n : ℕ) {out : List ℕ} {at : ℕ} {after : List ℕ} {next : ℕ} → Appends (label ++ decimal n) out at after next
-    → next ≤ at + length label + 20
-labelled_ends label n a = omega (arith, a.ends, length-append label (decimal n), decimal_most n)

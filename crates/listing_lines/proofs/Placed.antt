@@ -2,7 +2,7 @@
 -- the front of a slice. Rests on checks' law of stores in a row (Slices).
 use mathlib.Core.Path.{◌≡◌, refl, sym, ap, ap₂, ◌∙◌}
 use mathlib.Core.Bool.{Bool, true, false}
-use mathlib.Core.List.{List, [], ◌∷◌, ◌++◌, append_assoc}
+use mathlib.Core.List.{List, [], ◌∷◌, ◌++◌}
 use Prim.Native.Nat.{ℕ, ◌+◌, ◌≤◌, ◌<◌}
 use native.Mathlib.Nat.{zero-add}
 use native.Mathlib.Numerals.{add-one}
@@ -42,11 +42,6 @@ module _ {text out : List ℕ} {at : ℕ} {out' : List ℕ} {at' : ℕ} where
   -- there is room for it
   pub room : (xs rest : List ℕ) → Left text out at (xs ++ rest) out' at' → at + length text ≤ length out → at' + length xs ≤ length out'
   room xs rest l r = omega (arith, l.ends, l.long, length-append xs rest)
-
-  -- a label and a number are written
-  pub labelled_part : (label number rest : List ℕ) {out'' : List ℕ} {at'' : ℕ} → Left text out at (label ++ (number ++ rest)) out' at'
-      → Appends (label ++ number) out' at' out'' at'' → Left text out at rest out'' at''
-  labelled_part label number rest l e = part (label ++ number) rest (renamed (sym (append_assoc label number rest)) l) e
 
   -- nothing is left
   pub whole : Left text out at [] out' at' → Appends text out at out' at'

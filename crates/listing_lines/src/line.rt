@@ -1,43 +1,23 @@
-// Texts: the first line and the refusal, put together in a line of their own and then written whole or not at all, as any text can be.
-ghost use Rattle.std.specs.Prelude.{◌++◌, ◌+◌, ◌≤◌, length};
-ghost use Rattle.listing_lines.specs.Lines.{decimal, decimal_with, first_line, refused_line};
-ghost use Rattle.listing_lines.specs.Writing.{Appends, Wrote};
+// Texts: the first line and the refusal, put together in a string of their own and then written whole or not at all, as any text can be.
+ghost use Rattle.std.specs.Prelude.{◌≡◌, ◌++◌, ◌+◌, ◌≤◌, length};
+ghost use Rattle.arrayvec.specs.ArrayString.{array_string_len};
+ghost use Rattle.listing_lines.specs.Lines.{decimal, first_line, refused_line};
+ghost use Rattle.listing_lines.specs.Writing.{Wrote};
 
-// Writes a text from place `at` on; the answer is the next place.
-fn append(text: &[u8], at: usize, line: &mut [u8]) -> usize
-    requires { at + length text.now ≤ length line.old }
-    ensures { Appends text.now line.old at line.new result }
-{
-    for i in 0..text.len() {
-        line[at + i] = text[i];
-    }
-    at + text.len()
-}
+use arrayvec::ArrayString;
+use itoa::Buffer;
 
-// Writes a number of at most k digits.
-fn digits(k: usize, n: usize, at: usize, line: &mut [u8]) -> usize
-    requires { at + length (decimal_with k n) ≤ length line.old }
-    ensures { Appends (decimal_with k n) line.old at line.new result }
-{
-    if k == 0 {
-        return at;
-    }
-    if n < 10 {
-        line[at] = 48 + (n as u8);
-        return at + 1;
-    }
-    let last = digits(k - 1, n / 10, at, line);
-    line[last] = 48 + ((n % 10) as u8);
-    last + 1
-}
+// A line with room for each of these texts. It is put together part by part: `write!` tells what it wrote where it is Ok, and nothing tells that it is.
+type Line = ArrayString<96>;
 
-// Writes a label and a number.
-fn labelled(label: &[u8], n: usize, at: usize, line: &mut [u8]) -> usize
-    requires { at + length label.now + 20 ≤ length line.old }
-    ensures { Appends (label.now ++ decimal n) line.old at line.new result }
+// Adds a label and a number to a line.
+fn push_labelled(line: &mut Line, label: &str, n: usize)
+    requires { array_string_len line.old + length label.now + 20 ≤ 96 }
+    ensures text { line.new.bytes ≡ line.old.bytes ++ (label.now ++ decimal n) }
+    ensures bound { array_string_len line.new ≤ array_string_len line.old + length label.now + 20 }
 {
-    let at = append(label, at, line);
-    digits(20, n, at, line)
+    line.push_str(label);
+    line.push_str(Buffer::new().format(n));
 }
 
 // Writes a text at the front of `out`, or nothing where it does not fit; the answer counts the bytes written.
@@ -47,27 +27,28 @@ pub fn put_text(text: &[u8], out: &mut [u8]) -> usize
     if out.len() < text.len() {
         return 0;
     }
-    append(text, 0, out)
+    out[..text.len()].copy_from_slice(text);
+    text.len()
 }
 
 // The first line: the share count, share words and tape words. Nothing is written where it does not fit.
 pub fn first_line(n: usize, words: usize, tape: usize, out: &mut [u8]) -> usize
     ensures { Wrote (first_line n words tape) out.old out.new result }
 {
-    let mut line = [0u8; 96];
-    let at = labelled(b"shares ", n, 0, &mut line);
-    let at = labelled(b" words ", words, at, &mut line);
-    let at = labelled(b" tape ", tape, at, &mut line);
-    let at = append(b"\n", at, &mut line);
-    put_text(&line[..at], out)
+    let mut line = Line::new();
+    push_labelled(&mut line, "shares ", n);
+    push_labelled(&mut line, " words ", words);
+    push_labelled(&mut line, " tape ", tape);
+    line.push_str("\n");
+    put_text(line.as_str().as_bytes(), out)
 }
 
-// The line of a turn-down. Nothing is written where it does not fit.
+// The line of a turn-down. Nothing is written where it does not fit. It takes a number, for `refused_line` is said of every one, and a Refusal has eight.
 pub fn refused_line(number: u32, out: &mut [u8]) -> usize
     ensures { Wrote (refused_line number) out.old out.new result }
 {
-    let mut line = [0u8; 32];
-    let at = labelled(b"refused ", number as usize, 0, &mut line);
-    let at = append(b"\n", at, &mut line);
-    put_text(&line[..at], out)
+    let mut line = Line::new();
+    push_labelled(&mut line, "refused ", number as usize);
+    line.push_str("\n");
+    put_text(line.as_str().as_bytes(), out)
 }

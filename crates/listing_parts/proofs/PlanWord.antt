@@ -1,4 +1,5 @@
 -- The lines of one plan word: those of its share words, 4,032 at most, or none where n is no share count. Rests on masking's counts.
+use Rattle.std.specs.Prelude.{Option, Some, None}
 use mathlib.Core.Path.{◌≡◌, refl, ap, ◌∙◌}
 use mathlib.Core.Bool.{Bool, true, false}
 use mathlib.Core.List.{List, []}
@@ -6,8 +7,7 @@ use Prim.Native.Nat.{ℕ, ◌≤◌}
 use native.Mathlib.Omega.{arith}
 use lib.ListN.{length, take, length-map}
 use lib.Seq.{length-sets}
-use Rattle.word.specs.declared.step.Decoded.{Decoded}
-use Rattle.word.specs.declared.step.Decoded.TheVariants.{Good, Bad}
+use Rattle.word.specs.declared.step.Step.{Step}
 use Rattle.word.specs.Encoding.{kind_number, in_plan, plan_step, word_of}
 use Rattle.word.specs.Layout.{word_max, is_share_count}
 use Rattle.checks.specs.Answers.{kept_unless}
@@ -24,9 +24,9 @@ use Rattle.listing_parts.specs.Parts.{word_lines, word_bytes}
 pub words_most : (n w : ℕ) → 2 ≤ n → n ≤ 8 → length (words_for n (plan_step w)) ≤ word_max
 words_most n w l m = by (plan_step w) refl
   where
-    by : (d : Decoded) → plan_step w ≡ d → length (words_for n d) ≤ word_max
-    by (Good s) e = omega (arith, length-map (translated n s) word_of, (step_counts n l m s (taken_rule in_plan w s e)).words, length_le n m (kind_number s))
-    by Bad e = omega arith
+    by : (d : Option Step) → plan_step w ≡ d → length (words_for n d) ≤ word_max
+    by (Some s) e = omega (arith, length-map (translated n s) word_of, (step_counts n l m s (taken_rule in_plan w s e)).words, length_le n m (kind_number s))
+    by None e = omega arith
 
 module _ (n w : ℕ) where
   pub lines_of_is : is_share_count n ≡ true → word_lines n w ≡ hex_lines (words_for n (plan_step w))

@@ -35,6 +35,7 @@ pub struct Part {
 pub fn list_part(n: usize, plan: &[u32], from: usize, out: &mut [u8]) -> Part
     ensures { ListsPart n plan.now from out.old out.new result.next result.bytes }
 {
+    // Not `for next in from..plan.len()`: the proof of where it ends, with `from` behind the plan too, did not close.
     let mut next = from;
     let mut at = 0;
     while next < plan.len() && WORD_BYTES <= out.len() - at {

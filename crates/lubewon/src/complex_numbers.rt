@@ -31,7 +31,7 @@ pub extern "C" fn lubewon_layer(
     ensures numbers { numbers.new ≡ plain_numbers count distance numbers.old factors.now }
     ensures holds { LayerMeans }
 {
-    fft_plain::layer(count, distance, numbers, factors)
+    Answer::from(fft_plain::layer(count, distance, numbers, factors))
 }
 
 // The product of complex numbers on n shares; `work` has 512 words and is zeros afterwards.
@@ -51,7 +51,7 @@ pub extern "C" fn lubewon_complex_product_shares(
     ensures means { OnSharesMeans }
     ensures words { TransformWords }
 {
-    fft_layer::complex_product(n, x, y, res, work, tape)
+    Answer::from(fft_layer::complex_product(n, x, y, res, work, tape))
 }
 
 // One layer over `count` complex numbers on n shares at `distance`, in place, likewise.
@@ -73,5 +73,5 @@ pub extern "C" fn lubewon_layer_shares(
     ensures means { OnSharesMeans }
     ensures words { TransformWords }
 {
-    fft_layer::layer(n, count, distance, numbers, factors, work, tape)
+    Answer::from(fft_layer::layer(n, count, distance, numbers, factors, work, tape))
 }

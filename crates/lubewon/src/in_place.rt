@@ -25,7 +25,7 @@ pub extern "C" fn lubewon_product_in_place(
     ensures holds { Masked }
     ensures words { RandomWords }
 {
-    operations::in_place::product(x, y, work, tape)
+    Answer::from(operations::in_place::product(x, y, work, tape))
 }
 
 // The sum of shared operands, likewise.
@@ -42,7 +42,7 @@ pub extern "C" fn lubewon_sum_in_place(
     ensures holds { Masked }
     ensures words { RandomWords }
 {
-    operations::in_place::sum(x, y, work, tape)
+    Answer::from(operations::in_place::sum(x, y, work, tape))
 }
 
 // The floor of a shared operand, likewise.
@@ -54,7 +54,7 @@ pub extern "C" fn lubewon_floor_in_place(x: &mut [u64], work: &mut [u64], tape: 
     ensures holds { Masked }
     ensures words { RandomWords }
 {
-    operations::in_place::floor(x, work, tape)
+    Answer::from(operations::in_place::floor(x, work, tape))
 }
 
 // The truncation of a shared operand, likewise.
@@ -66,7 +66,7 @@ pub extern "C" fn lubewon_truncate_in_place(x: &mut [u64], work: &mut [u64], tap
     ensures holds { Masked }
     ensures words { RandomWords }
 {
-    operations::in_place::truncate(x, work, tape)
+    Answer::from(operations::in_place::truncate(x, work, tape))
 }
 
 // The whole number nearest to a shared operand, likewise.
@@ -78,5 +78,5 @@ pub extern "C" fn lubewon_nearest_in_place(x: &mut [u64], work: &mut [u64], tape
     ensures holds { Masked }
     ensures words { RandomWords }
 {
-    operations::in_place::nearest(x, work, tape)
+    Answer::from(operations::in_place::nearest(x, work, tape))
 }

@@ -12,7 +12,7 @@ pub extern "C" fn lubewon_plain_run(plan: &[u32], cells: &mut [u64]) -> Answer
     ensures answer { result ≡ plain_answer plan.now (length cells.old) }
     ensures cells { cells.new ≡ plain_cells plan.now cells.old }
 {
-    plain::plain_run(plan, cells)
+    Answer::from(plain::plain_run(plan, cells))
 }
 
 // Runs, for a reader that keeps n shares, the smaller of `budget` and the words left of a share program, from the places given. What holds of
@@ -31,7 +31,7 @@ pub extern "C" fn lubewon_share_run(
     ensures cells { cells.new ≡ run_cells program.now tape.now (standing cells.old place tape_place) (told n budget) }
     ensures holds { Demand3Holds }
 {
-    share_run::run::share_run(n, program, place, tape, tape_place, budget, cells)
+    Answer::from(share_run::run::share_run(n, program, place, tape, tape_place, budget, cells))
 }
 
 // Runs a single word of a share program, a head among them.
@@ -45,5 +45,5 @@ pub extern "C" fn lubewon_one_share_step(
     ensures answer { result ≡ step_answer word tape.now cells.old tape_place }
     ensures cells { cells.new ≡ step_cells word tape.now cells.old tape_place }
 {
-    share_step::one_share_step(word, tape, tape_place, cells)
+    Answer::from(share_step::one_share_step(word, tape, tape_place, cells))
 }

@@ -1,10 +1,10 @@
 // The operations on plain words, and the copies of their plans, for C.
 ghost use Rattle.std.specs.Prelude.{◌≡◌};
-ghost use Rattle.binary64.specs.Product as product-spec;
-ghost use Rattle.binary64.specs.Sum as sum-spec;
-ghost use Rattle.binary64.specs.Floor as floor-spec;
-ghost use Rattle.binary64.specs.Truncate as truncate-spec;
-ghost use Rattle.binary64.specs.Nearest as nearest-spec;
+ghost use Rattle.binary64.specs.Product as product_spec;
+ghost use Rattle.binary64.specs.Sum as sum_spec;
+ghost use Rattle.binary64.specs.Floor as floor_spec;
+ghost use Rattle.binary64.specs.Truncate as truncate_spec;
+ghost use Rattle.binary64.specs.Nearest as nearest_spec;
 ghost use Rattle.plans.specs.BuiltIns.{BuiltIns};
 ghost use Rattle.plan_copy.specs.Copy.{copy_answer, copy_out};
 ghost use Rattle.plans.specs.words.ProductPlan.{product_plan};
@@ -18,7 +18,7 @@ use checks::answer::Answer;
 // The product of two words as numbers.
 #[unsafe(no_mangle)]
 pub extern "C" fn lubewon_product(a: u64, b: u64) -> u64
-    ensures { result ≡ product-spec.product a b }
+    ensures { result ≡ product_spec.product a b }
 {
     binary64_plain::product(a, b)
 }
@@ -26,7 +26,7 @@ pub extern "C" fn lubewon_product(a: u64, b: u64) -> u64
 // Their sum.
 #[unsafe(no_mangle)]
 pub extern "C" fn lubewon_sum(a: u64, b: u64) -> u64
-    ensures { result ≡ sum-spec.sum a b }
+    ensures { result ≡ sum_spec.sum a b }
 {
     binary64_plain::sum(a, b)
 }
@@ -34,7 +34,7 @@ pub extern "C" fn lubewon_sum(a: u64, b: u64) -> u64
 // The greatest whole number not above a number, with its sign.
 #[unsafe(no_mangle)]
 pub extern "C" fn lubewon_floor(a: u64) -> u64
-    ensures { result ≡ floor-spec.floor a }
+    ensures { result ≡ floor_spec.floor a }
 {
     binary64_whole::floor(a)
 }
@@ -42,7 +42,7 @@ pub extern "C" fn lubewon_floor(a: u64) -> u64
 // The whole part of a number, with its sign.
 #[unsafe(no_mangle)]
 pub extern "C" fn lubewon_truncate(a: u64) -> u64
-    ensures { result ≡ truncate-spec.truncate a }
+    ensures { result ≡ truncate_spec.truncate a }
 {
     binary64_whole::truncate(a)
 }
@@ -50,7 +50,7 @@ pub extern "C" fn lubewon_truncate(a: u64) -> u64
 // The whole number nearest to a number, a tie to the even one, with its sign.
 #[unsafe(no_mangle)]
 pub extern "C" fn lubewon_nearest(a: u64) -> u64
-    ensures { result ≡ nearest-spec.nearest a }
+    ensures { result ≡ nearest_spec.nearest a }
 {
     binary64_whole::nearest(a)
 }
@@ -61,7 +61,7 @@ pub extern "C" fn lubewon_copy_product_plan(out: &mut [u32]) -> Answer
     ensures value { (result ≡ copy_answer product_plan out.old) × (out.new ≡ copy_out product_plan out.old) }
     ensures holds { BuiltIns }
 {
-    plan_copy::copy_product(out)
+    Answer::from(plan_copy::copy_product(out))
 }
 
 #[unsafe(no_mangle)]
@@ -69,7 +69,7 @@ pub extern "C" fn lubewon_copy_sum_plan(out: &mut [u32]) -> Answer
     ensures value { (result ≡ copy_answer sum_plan out.old) × (out.new ≡ copy_out sum_plan out.old) }
     ensures holds { BuiltIns }
 {
-    plan_copy::copy_sum(out)
+    Answer::from(plan_copy::copy_sum(out))
 }
 
 #[unsafe(no_mangle)]
@@ -77,7 +77,7 @@ pub extern "C" fn lubewon_copy_floor_plan(out: &mut [u32]) -> Answer
     ensures value { (result ≡ copy_answer floor_plan out.old) × (out.new ≡ copy_out floor_plan out.old) }
     ensures holds { BuiltIns }
 {
-    plan_copy::copy_floor(out)
+    Answer::from(plan_copy::copy_floor(out))
 }
 
 #[unsafe(no_mangle)]
@@ -85,7 +85,7 @@ pub extern "C" fn lubewon_copy_truncate_plan(out: &mut [u32]) -> Answer
     ensures value { (result ≡ copy_answer truncate_plan out.old) × (out.new ≡ copy_out truncate_plan out.old) }
     ensures holds { BuiltIns }
 {
-    plan_copy::copy_truncate(out)
+    Answer::from(plan_copy::copy_truncate(out))
 }
 
 #[unsafe(no_mangle)]
@@ -93,5 +93,5 @@ pub extern "C" fn lubewon_copy_nearest_plan(out: &mut [u32]) -> Answer
     ensures value { (result ≡ copy_answer nearest_plan out.old) × (out.new ≡ copy_out nearest_plan out.old) }
     ensures holds { BuiltIns }
 {
-    plan_copy::copy_nearest(out)
+    Answer::from(plan_copy::copy_nearest(out))
 }

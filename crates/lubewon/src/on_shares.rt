@@ -26,7 +26,7 @@ pub extern "C" fn lubewon_product_shares(
     ensures holds { Masked }
     ensures words { RandomWords }
 {
-    operations::product(x, y, res, work, tape)
+    Answer::from(operations::product(x, y, res, work, tape))
 }
 
 // The sum of shared operands, likewise.
@@ -44,7 +44,7 @@ pub extern "C" fn lubewon_sum_shares(
     ensures holds { Masked }
     ensures words { RandomWords }
 {
-    operations::sum(x, y, res, work, tape)
+    Answer::from(operations::sum(x, y, res, work, tape))
 }
 
 // The floor of a shared operand, likewise.
@@ -61,7 +61,7 @@ pub extern "C" fn lubewon_floor_shares(
     ensures holds { Masked }
     ensures words { RandomWords }
 {
-    operations::floor(x, res, work, tape)
+    Answer::from(operations::floor(x, res, work, tape))
 }
 
 // The truncation of a shared operand, likewise.
@@ -78,7 +78,7 @@ pub extern "C" fn lubewon_truncate_shares(
     ensures holds { Masked }
     ensures words { RandomWords }
 {
-    operations::truncate(x, res, work, tape)
+    Answer::from(operations::truncate(x, res, work, tape))
 }
 
 // The whole number nearest to a shared operand, likewise.
@@ -95,5 +95,5 @@ pub extern "C" fn lubewon_nearest_shares(
     ensures holds { Masked }
     ensures words { RandomWords }
 {
-    operations::nearest(x, res, work, tape)
+    Answer::from(operations::nearest(x, res, work, tape))
 }

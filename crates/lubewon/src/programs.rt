@@ -12,7 +12,7 @@ use checks::answer::Answer;
 pub extern "C" fn lubewon_measure(n: usize, plan: &[u32]) -> Answer
     ensures { result ≡ measure_answer n plan.now }
 {
-    translation::measure::measure(n, plan)
+    Answer::from(translation::measure::measure(n, plan))
 }
 
 // Writes the share program of a plan for n shares to the front of `out`. What ties its words to demand 3 is `TranslateTied`.
@@ -22,7 +22,7 @@ pub extern "C" fn lubewon_translate(n: usize, plan: &[u32], out: &mut [u32]) -> 
     ensures out { out.new ≡ translate_out n plan.now out.old }
     ensures holds { TranslateTied }
 {
-    translation::translate::translate(n, plan, out)
+    Answer::from(translation::translate::translate(n, plan, out))
 }
 
 // Puts the head for n shares before a stored program that has none. What holds of it is `Converts`.
@@ -32,5 +32,5 @@ pub extern "C" fn lubewon_add_head(n: usize, stored: &[u32], out: &mut [u32]) ->
     ensures out { out.new ≡ add_head_out n stored.now out.old }
     ensures holds { Converts }
 {
-    add_head::add_head(n, stored, out)
+    Answer::from(add_head::add_head(n, stored, out))
 }

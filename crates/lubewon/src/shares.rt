@@ -12,7 +12,7 @@ pub extern "C" fn lubewon_split(word: u64, tape: &[u64], out: &mut [u64]) -> Ans
     ensures out { out.new ≡ split_out word tape.now out.old }
     ensures holds { SplitJoins }
 {
-    split_join::split(word, tape, out)
+    Answer::from(split_join::split(word, tape, out))
 }
 
 // Joins shares to their word, 0 when turned down.
@@ -22,5 +22,5 @@ pub extern "C" fn lubewon_join(shares: &[u64]) -> Joined
     ensures word { result.word ≡ joined_word shares.now }
     ensures holds { SplitJoins }
 {
-    split_join::join(shares)
+    Joined::from(split_join::join(shares))
 }

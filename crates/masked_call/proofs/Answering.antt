@@ -1,4 +1,4 @@
--- What holds where an operation's answer is done. Rests on word's Small and Passed.
+-- What holds where an operation's answer is done, and that a refusal is none that is. Rests on word's Small and Passed.
 use mathlib.Core.Path.{◌≡◌, refl, sym, ap, ◌∙◌}
 use mathlib.Core.Bool.{Bool, true, false, not, ◌&&◌}
 use mathlib.Core.List.{List}
@@ -10,7 +10,9 @@ use Rattle.checks.specs.declared.answer.Answer.{Answer}
 use Rattle.word.specs.Layout.{is_share_count}
 use Rattle.word.proofs.Small.{share_range}
 use Rattle.checks.proofs.Passed.{passed}
-use Rattle.checks.specs.Answers.{refused}
+use Rattle.checks.specs.declared.refusal.Refusal.{Refusal}
+use Rattle.checks.specs.declared.refusal.Refusal.TheVariants.{ShareCount, TooLong, BadWord, Length, Place, Tape, Layer, Head}
+use Rattle.checks.specs.Answers.{refusal_of, refused}
 use Rattle.masking.specs.Foretold.{foretold_tape}
 use Rattle.masked_call.specs.Shares.{answer_for, operation_answer}
 
@@ -44,3 +46,13 @@ ready plan n other result work tape a e z =
       works = eqb-true work 512 m.1;
       enough = ltb-false tape (foretold_tape n plan) p₆.0;
     }
+
+pub not_done : (e : Refusal) → (refusal_of e).number ≡ 0 → ⊥
+not_done ShareCount h = omega arith
+not_done TooLong h = omega arith
+not_done (BadWord place) h = omega arith
+not_done Length h = omega arith
+not_done Place h = omega arith
+not_done Tape h = omega arith
+not_done Layer h = omega arith
+not_done Head h = omega arith

@@ -1,5 +1,4 @@
-// What a call over any good plan has beside the plan's words and the work slice: its answer, and a second operand for a plan of one.
+// What a call over any good plan has beside the plan's words and the work slice: its answer.
 #![tactic(auto)]
 
-pub mod one_operand;
 pub mod operation;

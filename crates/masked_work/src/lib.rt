@@ -1,45 +1,22 @@
 // The work slice of a call over any plan: operands placed, the result copied out, and zeros again.
 #![tactic(auto)]
 
-ghost use Rattle.std.specs.Prelude.{◌≡◌, ◌≤◌, ◌<◌, length, replicate};
+ghost use Rattle.std.specs.Prelude.{◌≡◌, ◌≤◌, length, replicate};
 ghost use Rattle.masked_call.specs.Shares.{placed_in, shares_of};
 
 use word::step_word::StepWord;
 
-// One run of zeros.
-fn zeros(cells: &mut [u64])
-    ensures { cells.new ≡ replicate (length cells.old) 0 }
-{
-    let mut i = 0;
-    while i < cells.len() {
-        cells[i] = 0;
-        i += 1;
-    }
-}
-
 // Words cleared at a time. The C library stores a longer run of zeros byte by byte.
 const PART: usize = 64;
 
-// Where a part that begins at `at` ends.
-fn part_end(at: usize, length: usize) -> usize
-    requires { at < length }
-    ensures { (at < result) × (result ≤ length) }
-{
-    if length - at < PART {
-        length
-    } else {
-        at + PART
-    }
-}
-
-// A piece of the slice, part by part.
+// A piece of the slice, part by part. By hand: what `chunks_mut` promises says nothing of the slice once its chunks are written.
 fn clear_by_parts(cells: &mut [u64])
     ensures { cells.new ≡ replicate (length cells.old) 0 }
 {
     let mut at = 0;
     while at < cells.len() {
-        let end = part_end(at, cells.len());
-        zeros(&mut cells[at..end]);
+        let end = at + (cells.len() - at).min(PART);
+        cells[at..end].fill(0);
         at = end;
     }
 }
@@ -59,11 +36,9 @@ pub fn place(x: &[u64], y: &[u64], cells: &mut [u64])
     requires { (length y.now ≡ length x.now) × (length x.now ≤ 8) × (length cells.old ≡ 512) }
     ensures { cells.new ≡ placed_in 1 0 y.now (placed_in 0 0 x.now cells.old) }
 {
-    let mut i = 0;
-    while i < x.len() {
+    for i in 0..x.len() {
         cells[StepWord::REGISTERS * i] = x[i];
         cells[StepWord::REGISTERS * i + 1] = y[i];
-        i += 1;
     }
 }
 
@@ -76,11 +51,9 @@ fn copy_out(cells: &[u64], res: &mut [u64])
     requires { (length res.old ≤ 8) × (length cells.now ≡ 512) }
     ensures { res.new ≡ shares_of (length res.old) 2 cells.now }
 {
-    let mut i = 0;
-    while i < res.len() {
+    for i in 0..res.len() {
         res[i] = cells[WIPED];
         res[i] = cells[StepWord::REGISTERS * i + 2];
-        i += 1;
     }
 }
 

@@ -1,5 +1,6 @@
 -- The head of a share program is no step: the words behind it do what they do without it, and a step over it does nothing.
 -- Rests on word's Head.
+use Rattle.std.specs.Prelude.{Option}
 use mathlib.Core.Path.{◌≡◌, refl, ap, ◌∙◌}
 use mathlib.Core.Bool.{Bool, true, false, not, ◌||◌}
 use mathlib.Core.List.{List, [], ◌∷◌}
@@ -9,7 +10,6 @@ use lib.Dec.{T, ltb, eqb}
 use lib.ListN.{length, drop}
 use borrow.Author.Tests.{le-ltb}
 use Rattle.word.specs.declared.step.Step.{Step}
-use Rattle.word.specs.declared.step.Decoded.{Decoded}
 use Rattle.word.specs.Encoding.{program_step}
 use Rattle.word.specs.Head.{head_word, is_head}
 use Rattle.word.specs.Layout.{is_share_count, headed_max}
@@ -23,7 +23,7 @@ use Rattle.masking.proofs.OneRun.{rest_inside}
 
 module _ (n : ℕ) (most : n ≤ 8) where
   pub no_step : (words : List ℕ) → steps_of (head_word n ∷ words) ≡ steps_of words
-  no_step words = ap (λ (d : Decoded). with_step d (steps_of words)) (head_bad n most)
+  no_step words = ap (λ (d : Option Step). with_step d (steps_of words)) (head_bad n most)
 
   pub head_exec : (words tape cells : List ℕ) → exec (head_word n ∷ words) tape cells ≡ exec words tape cells
   head_exec words tape cells = ap (λ (ss : List Step). exec_steps ss tape cells) (no_step words)

@@ -1,5 +1,6 @@
 -- Share runs in a row: what a list of runs does to cells and places, run by run, whatever the tape holds.
 -- Rests on OneRun for a run's answer, on Counts for the tape words of steps in a row.
+use Rattle.std.specs.Prelude.{Option, Some, None}
 use mathlib.Core.Path.{◌≡◌, refl, sym, ap, ap₂, ◌∙◌, subst}
 use mathlib.Core.List.{List, [], ◌∷◌, ◌++◌}
 use mathlib.Core.Bool.{Bool, true, false, cond}
@@ -12,8 +13,6 @@ use lib.ListN.{length, get_or, take, drop, length-take, length-set, take-append-
 use lib.Seq.{drop-drop, take-add}
 use borrow.Author.Tests.{lt-ltb, le-ltb}
 use Rattle.word.specs.declared.step.Step.{Step}
-use Rattle.word.specs.declared.step.Decoded.{Decoded}
-use Rattle.word.specs.declared.step.Decoded.TheVariants.{Good, Bad}
 use Rattle.checks.specs.declared.answer.Answer.{Answer}
 use Rattle.word.specs.Encoding.{program_step}
 use Rattle.word.specs.Layout.{is_share_count}
@@ -31,9 +30,9 @@ pub steps_append : (p q : List ℕ) → steps_of (p ++ q) ≡ steps_of p ++ step
 steps_append [] q = refl
 steps_append (w ∷ p) q = by (program_step w) (steps_append p q)
   where
-    by : (d : Decoded) → steps_of (p ++ q) ≡ steps_of p ++ steps_of q → with_step d (steps_of (p ++ q)) ≡ with_step d (steps_of p) ++ steps_of q
-    by (Good s) e = ap (λ (r : List Step). s ∷ r) e
-    by Bad e = e
+    by : (d : Option Step) → steps_of (p ++ q) ≡ steps_of p ++ steps_of q → with_step d (steps_of (p ++ q)) ≡ with_step d (steps_of p) ++ steps_of q
+    by (Some s) e = ap (λ (r : List Step). s ∷ r) e
+    by None e = e
 
 pub exec_steps_append : (p q : List Step) (tape cells : List ℕ) → exec_steps (p ++ q) tape cells ≡ exec_steps q (drop (rands_of p) tape) (exec_steps p tape cells)
 exec_steps_append [] q tape cells = refl

@@ -1,7 +1,6 @@
 -- What holds of the head of a share program, document 02's No. 7: "kind 10, d the share count, a and b zero. It changes no cell, uses no tape and counts as
 -- one word done." "One share step accepts a head and reports one word done."
-use Rattle.std.specs.Prelude.{◌≡◌, List, ◌∷◌, ℕ, ◌≤◌, T, length}
-use Rattle.word.specs.declared.step.Decoded.TheVariants.{Bad}
+use Rattle.std.specs.Prelude.{◌≡◌, List, ◌∷◌, ℕ, ◌≤◌, T, length, None}
 use Rattle.word.specs.Encoding.{kind_of, bit27, field_d, field_a, field_b, plan_step, program_step}
 use Rattle.word.specs.Head.{head_word, is_head}
 use Rattle.checks.specs.Answers.{done}
@@ -27,6 +26,6 @@ pub record HeadsHold : Type 0 where
   -- no other word is a head
   pub only : (w : ℕ) → T (is_head w) → (2 ≤ field_d w) × (field_d w ≤ 8) × (w ≡ head_word (field_d w))
   -- "A head past place 0 .. is a bad word", and so is any word of kind 10, in a plan too
-  pub past : (w : ℕ) → kind_of w ≡ 10 → (program_step w ≡ Bad) × (plan_step w ≡ Bad)
+  pub past : (w : ℕ) → kind_of w ≡ 10 → (program_step w ≡ None) × (plan_step w ≡ None)
   -- a run that finds a bad word finds it behind the head
   pub behind : (program tape : List ℕ) (st : State) (run : Run) → (run_answer program tape st run).number ≡ 3 → 1 ≤ (run_answer program tape st run).place

@@ -1,10 +1,8 @@
 -- "Share machine: 512 cells and the tape. The program's words in order each set cell d by the table and leave the others; RAND takes
 -- the next tape word."
-use Rattle.std.specs.Prelude.{List, [], ◌∷◌, ◌≡◌, ℕ, ◌+◌, ◌^◌, ◌<◌, length, get_or, set, drop}
+use Rattle.std.specs.Prelude.{List, [], ◌∷◌, ◌≡◌, ℕ, ◌+◌, ◌^◌, ◌<◌, length, get_or, set, drop, Option, Some, None}
 use Rattle.word.specs.declared.step.Step.{Step}
 use Rattle.word.specs.declared.step.Step.TheVariants.{Const, Xor, And, Not, Shl, Shr, Spread, Add, Rand}
-use Rattle.word.specs.declared.step.Decoded.{Decoded}
-use Rattle.word.specs.declared.step.Decoded.TheVariants.{Good, Bad}
 use Rattle.word.specs.Encoding.{program_step}
 use Rattle.word.specs.Table.{dest, becomes}
 
@@ -22,9 +20,9 @@ takes (Rand d) = 1
 
 -- the steps of words; a head is none (document 02, No. 7: it "changes no cell, uses no tape"), nor is a bad word (no run goes over a program that
 -- has one)
-abbrev pub with_step : Decoded → List Step → List Step
-with_step (Good s) ss = s ∷ ss
-with_step Bad ss = ss
+abbrev pub with_step : Option Step → List Step → List Step
+with_step (Some s) ss = s ∷ ss
+with_step None ss = ss
 
 abbrev pub steps_of : List ℕ → List Step
 steps_of [] = []

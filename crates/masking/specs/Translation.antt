@@ -1,10 +1,8 @@
 -- Document 01's section "Translation for n shares", in its order, with document 02's No. 4: AND wipes its scratch cells, and No. 7: the head. "Steps below stand
 -- in emission order, shares rising from 0, pairs i < j by i and then j."
-use Rattle.std.specs.Prelude.{cond, List, [], ◌∷◌, ◌++◌, map, ℕ, zero, suc, ◌-◌, ltb}
+use Rattle.std.specs.Prelude.{cond, List, [], ◌∷◌, ◌++◌, map, ℕ, zero, suc, ◌-◌, ltb, Option, Some, None}
 use Rattle.word.specs.declared.step.Step.{Step}
 use Rattle.word.specs.declared.step.Step.TheVariants.{Const, Xor, And, Not, Shl, Shr, Spread, Add, Rand}
-use Rattle.word.specs.declared.step.Decoded.{Decoded}
-use Rattle.word.specs.declared.step.Decoded.TheVariants.{Good, Bad}
 use Rattle.word.specs.Encoding.{plan_step, word_of}
 use Rattle.word.specs.Head.{head_word}
 use Rattle.word.specs.Layout.{cell, cell_y, cell_z, cell_t, cell_u, helper}
@@ -174,9 +172,9 @@ unfoldable pub translated : ℕ → Step → List Step
 translated n s = blocks scratch n (laid_out s)
 
 -- the share words of a plan word; Translate takes no plan with a bad one
-abbrev pub words_for : ℕ → Decoded → List ℕ
-words_for n (Good s) = map word_of (translated n s)
-words_for n Bad = []
+abbrev pub words_for : ℕ → Option Step → List ℕ
+words_for n (Some s) = map word_of (translated n s)
+words_for n None = []
 
 -- the share words of a plan: "Each plan word's translation .. begins where the last one ended."
 abbrev pub program : ℕ → List ℕ → List ℕ

@@ -8,66 +8,95 @@ ghost use Rattle.plans.specs.words.SumPlan.{sum_plan};
 ghost use Rattle.plans.specs.words.FloorPlan.{floor_plan};
 ghost use Rattle.plans.specs.words.TruncatePlan.{truncate_plan};
 ghost use Rattle.plans.specs.words.NearestPlan.{nearest_plan};
+ghost use Rattle.checks.specs.Answers.{answer_of};
 ghost use Rattle.operations.specs.Masked.{Masked};
 ghost use Rattle.operations.specs.RandomWords.{RandomWords};
 ghost use Rattle.masked_call.specs.Shares.{call_answer, result_after, work_after, zeros_for};
 
-use checks::answer::Answer;
+use checks::refusal::{Counts, Refusal};
+use compiled_floor::FloorPlan;
+use compiled_nearest::NearestPlan;
+use compiled_product::ProductPlan;
+use compiled_sum::SumPlan;
+use compiled_truncate::TruncatePlan;
+use masked_plan::calls::{call, call_of_one};
 
 pub mod in_place;
 
 // The product of shared operands x and y: its shares in `res`. Turned down with 1 where the shares are not 2 to 8, 4 where a slice has the
 // wrong length, 6 where the tape is too short; all is then as it was. `work` has 512 words, zeros afterwards. What holds of it is `Masked`.
-pub fn product(x: &[u64], y: &[u64], res: &mut [u64], work: &mut [u64], tape: &[u64]) -> Answer
-    ensures answer { result ≡ call_answer product_plan x.now y.now res.old work.old tape.now }
+pub fn product(
+    x: &[u64],
+    y: &[u64],
+    res: &mut [u64],
+    work: &mut [u64],
+    tape: &[u64],
+) -> Result<Counts, Refusal>
+    ensures answer { answer_of result ≡ call_answer product_plan x.now y.now res.old work.old tape.now }
     ensures res { res.new ≡ result_after product_plan x.now y.now res.old work.old tape.now }
     ensures work { work.new ≡ work_after product_plan x.now y.now res.old work.old tape.now }
     ensures holds { Masked }
     ensures words { RandomWords }
 {
-    compiled_product::calls::call(x, y, res, work, tape)
+    call::<ProductPlan>(x, y, res, work, tape)
 }
 
 // The sum of shared operands x and y, likewise.
-pub fn sum(x: &[u64], y: &[u64], res: &mut [u64], work: &mut [u64], tape: &[u64]) -> Answer
-    ensures answer { result ≡ call_answer sum_plan x.now y.now res.old work.old tape.now }
+pub fn sum(
+    x: &[u64],
+    y: &[u64],
+    res: &mut [u64],
+    work: &mut [u64],
+    tape: &[u64],
+) -> Result<Counts, Refusal>
+    ensures answer { answer_of result ≡ call_answer sum_plan x.now y.now res.old work.old tape.now }
     ensures res { res.new ≡ result_after sum_plan x.now y.now res.old work.old tape.now }
     ensures work { work.new ≡ work_after sum_plan x.now y.now res.old work.old tape.now }
     ensures holds { Masked }
     ensures words { RandomWords }
 {
-    compiled_sum::calls::call(x, y, res, work, tape)
+    call::<SumPlan>(x, y, res, work, tape)
 }
 
 // The floor of a shared operand x, likewise.
-pub fn floor(x: &[u64], res: &mut [u64], work: &mut [u64], tape: &[u64]) -> Answer
-    ensures answer { result ≡ call_answer floor_plan x.now (zeros_for x.now) res.old work.old tape.now }
+pub fn floor(x: &[u64], res: &mut [u64], work: &mut [u64], tape: &[u64]) -> Result<Counts, Refusal>
+    ensures answer { answer_of result ≡ call_answer floor_plan x.now (zeros_for x.now) res.old work.old tape.now }
     ensures res { res.new ≡ result_after floor_plan x.now (zeros_for x.now) res.old work.old tape.now }
     ensures work { work.new ≡ work_after floor_plan x.now (zeros_for x.now) res.old work.old tape.now }
     ensures holds { Masked }
     ensures words { RandomWords }
 {
-    compiled_floor::calls::call_of_one(x, res, work, tape)
+    call_of_one::<FloorPlan>(x, res, work, tape)
 }
 
 // The truncation of a shared operand x, likewise.
-pub fn truncate(x: &[u64], res: &mut [u64], work: &mut [u64], tape: &[u64]) -> Answer
-    ensures answer { result ≡ call_answer truncate_plan x.now (zeros_for x.now) res.old work.old tape.now }
+pub fn truncate(
+    x: &[u64],
+    res: &mut [u64],
+    work: &mut [u64],
+    tape: &[u64],
+) -> Result<Counts, Refusal>
+    ensures answer { answer_of result ≡ call_answer truncate_plan x.now (zeros_for x.now) res.old work.old tape.now }
     ensures res { res.new ≡ result_after truncate_plan x.now (zeros_for x.now) res.old work.old tape.now }
     ensures work { work.new ≡ work_after truncate_plan x.now (zeros_for x.now) res.old work.old tape.now }
     ensures holds { Masked }
     ensures words { RandomWords }
 {
-    compiled_truncate::calls::call_of_one(x, res, work, tape)
+    call_of_one::<TruncatePlan>(x, res, work, tape)
 }
 
 // The whole number nearest to a shared operand x, likewise.
-pub fn nearest(x: &[u64], res: &mut [u64], work: &mut [u64], tape: &[u64]) -> Answer
-    ensures answer { result ≡ call_answer nearest_plan x.now (zeros_for x.now) res.old work.old tape.now }
+pub fn nearest(
+    x: &[u64],
+    res: &mut [u64],
+    work: &mut [u64],
+    tape: &[u64],
+) -> Result<Counts, Refusal>
+    ensures answer { answer_of result ≡ call_answer nearest_plan x.now (zeros_for x.now) res.old work.old tape.now }
     ensures res { res.new ≡ result_after nearest_plan x.now (zeros_for x.now) res.old work.old tape.now }
     ensures work { work.new ≡ work_after nearest_plan x.now (zeros_for x.now) res.old work.old tape.now }
     ensures holds { Masked }
     ensures words { RandomWords }
 {
-    compiled_nearest::calls::call_of_one(x, res, work, tape)
+    call_of_one::<NearestPlan>(x, res, work, tape)
 }

@@ -1,8 +1,6 @@
 -- The plain machine for plans: 32 cells, "the plan's words in order by the same table" (document 01, "Share runs in a row").
-use Rattle.std.specs.Prelude.{List, [], ◌∷◌, ℕ, get_or, set}
+use Rattle.std.specs.Prelude.{List, [], ◌∷◌, ℕ, get_or, set, Option, Some, None}
 use Rattle.word.specs.declared.step.Step.{Step}
-use Rattle.word.specs.declared.step.Decoded.{Decoded}
-use Rattle.word.specs.declared.step.Decoded.TheVariants.{Good, Bad}
 use Rattle.word.specs.Encoding.{plan_step}
 use Rattle.word.specs.Table.{dest, becomes}
 
@@ -11,9 +9,9 @@ unfoldable pub stepped : Step → List ℕ → List ℕ
 stepped s cells = set cells (dest s) (becomes s (λ c. get_or cells c 0) 0)
 
 -- a bad word does nothing; no call runs a plan that has one
-abbrev pub after : Decoded → List ℕ → List ℕ
-after (Good s) cells = stepped s cells
-after Bad cells = cells
+abbrev pub after : Option Step → List ℕ → List ℕ
+after (Some s) cells = stepped s cells
+after None cells = cells
 
 -- the plan's words in order
 abbrev pub run : List ℕ → List ℕ → List ℕ

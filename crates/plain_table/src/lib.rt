@@ -11,7 +11,7 @@ use word::step::Step;
 pub fn read(cells: &[u64], c: usize) -> u64
     ensures { result ≡ slice_index cells.now c }
 {
-    if c < cells.len() { cells[c] } else { 0 }
+    cells.get(c).copied().unwrap_or(0)
 }
 
 // Puts a word into a cell; past the last cell nothing changes.
@@ -30,6 +30,7 @@ pub fn shl(a: u64, b: u32) -> u64
     if b < 64 { a << b } else { 0 }
 }
 
+#[tactic(auto, using(bits::proofs::Shift::shr_width), unfolding(bits::specs::Ops::shr_w))]
 pub fn shr(a: u64, b: u32) -> u64
     ensures { result ≡ shr_w a b }
 {
@@ -40,7 +41,7 @@ pub fn shr(a: u64, b: u32) -> u64
 pub fn add(x: u64, y: u64) -> u64
     ensures { result ≡ (x + y) % 2 ^ 64 }
 {
-    std::num::wrapping_add_u64(x, y)
+    x.wrapping_add(y)
 }
 
 // The cell that a step sets.
@@ -48,31 +49,32 @@ pub fn dest(s: Step) -> usize
     ensures { result ≡ spec.dest s }
 {
     match s {
-        Step::Const { d, k: _ } => d,
-        Step::Xor { d, a: _, b: _ } => d,
-        Step::And { d, a: _, b: _ } => d,
-        Step::Not { d, a: _ } => d,
-        Step::Shl { d, a: _, b: _ } => d,
-        Step::Shr { d, a: _, b: _ } => d,
-        Step::Spread { d, a: _ } => d,
-        Step::Add { d, a: _, b: _ } => d,
-        Step::Rand { d } => d,
+        Step::Const { d, .. }
+        | Step::Xor { d, .. }
+        | Step::And { d, .. }
+        | Step::Not { d, .. }
+        | Step::Shl { d, .. }
+        | Step::Shr { d, .. }
+        | Step::Spread { d, .. }
+        | Step::Add { d, .. }
+        | Step::Rand { d } => d,
     }
 }
 
 // What that cell becomes; `next` is the next tape word.
+#[tactic(auto, unfolding(bits::specs::Ops::xor_w, bits::specs::Ops::and_w, bits::specs::Ops::not_w, bits::specs::Ops::spread_w, bits::specs::Ops::add_w))]
 pub fn becomes(s: Step, cells: &[u64], next: u64) -> u64
     ensures { result ≡ spec.becomes s (λ (c : ℕ). slice_index cells.now c) next }
 {
     match s {
-        Step::Const { d: _, k } => k as u64,
-        Step::Xor { d: _, a, b } => read(cells, a) ^ read(cells, b),
-        Step::And { d: _, a, b } => read(cells, a) & read(cells, b),
-        Step::Not { d: _, a } => !read(cells, a),
-        Step::Shl { d: _, a, b } => shl(read(cells, a), b),
-        Step::Shr { d: _, a, b } => shr(read(cells, a), b),
-        Step::Spread { d: _, a } => (read(cells, a) % 2) * u64::MAX,
-        Step::Add { d: _, a, b } => add(read(cells, a), read(cells, b)),
-        Step::Rand { d: _ } => next,
+        Step::Const { k, .. } => k as u64,
+        Step::Xor { a, b, .. } => read(cells, a) ^ read(cells, b),
+        Step::And { a, b, .. } => read(cells, a) & read(cells, b),
+        Step::Not { a, .. } => !read(cells, a),
+        Step::Shl { a, b, .. } => shl(read(cells, a), b),
+        Step::Shr { a, b, .. } => shr(read(cells, a), b),
+        Step::Spread { a, .. } => (read(cells, a) % 2) * u64::MAX,
+        Step::Add { a, b, .. } => add(read(cells, a), read(cells, b)),
+        Step::Rand { .. } => next,
     }
 }

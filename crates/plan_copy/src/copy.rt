@@ -1,20 +1,38 @@
-// Copying a plan out.
-ghost use Rattle.std.specs.Prelude.{◌≡◌};
+// The built-in plans as one kind of thing, and copying any of them out.
+ghost use Rattle.std.specs.Prelude.{◌≡◌, List, ℕ, length};
+ghost use Rattle.checks.specs.Answers.{answer_of};
+ghost use Rattle.plans.specs.BuiltIns.{BuiltIns};
 ghost use Rattle.plan_copy.specs.Copy.{copy_answer, copy_out};
 
-use checks::answer::Answer;
+use checks::refusal::{Counts, Refusal};
 
-// The plan's words to the front of `out`, unless `out` is too short for them.
-pub fn copy(plan: &[u32], out: &mut [u32]) -> Answer
-    ensures { (result ≡ copy_answer plan.now out.old) × (out.new ≡ copy_out plan.now out.old) }
+// A built-in plan, whose words can be written out.
+pub trait BuiltIn {
+    // Its words.
+    ghost plan: { List ℕ };
+
+    // How many they are.
+    fn size() -> usize
+        ensures { result ≡ length plan };
+
+    // Writes them over as many words.
+    fn write(out: &mut [u32])
+        requires { length out.old ≡ length plan }
+        ensures { out.new ≡ plan };
+}
+
+// Copies the plan to the front of `out`, unless `out` is too short for it.
+pub fn copy<P: BuiltIn>(out: &mut [u32]) -> Result<Counts, Refusal>
+    ensures value { (answer_of result ≡ copy_answer P.plan out.old) × (out.new ≡ copy_out P.plan out.old) }
+    ensures holds { BuiltIns }
 {
-    if out.len() < plan.len() {
-        return Answer::refused(4);
+    let size = P::size();
+    if out.len() < size {
+        return Err(Refusal::Length);
     }
-    let mut i = 0;
-    while i < plan.len() {
-        out[i] = plan[i];
-        i += 1;
-    }
-    Answer::done(plan.len(), 0)
+    P::write(&mut out[..size]);
+    Ok(Counts {
+        words: size,
+        tape: 0,
+    })
 }

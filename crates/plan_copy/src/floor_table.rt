@@ -1,6 +1,7 @@
 // The words of floor's plan.
-ghost use Rattle.std.specs.Prelude.{◌≡◌};
 ghost use Rattle.plans.specs.words.FloorPlan.{floor_plan};
+
+use crate::copy::BuiltIn;
 
 const FLOOR: [u32; 297] = [
     0x50580006, 0x60582C3A, 0x505C0001, 0x605C2E3B, 0x10300000, 0x40301800, 0x50301820, 0x600C2C05,
@@ -43,9 +44,17 @@ const FLOOR: [u32; 297] = [
     0x20080403,
 ];
 
-// The whole table.
-pub fn words() -> [u32; 297]
-    ensures { result ≡ floor_plan }
-{
-    FLOOR
+// The plan whose words they are.
+pub struct Floor;
+
+impl BuiltIn for Floor {
+    ghost plan = { floor_plan };
+
+    fn size() -> usize {
+        FLOOR.len()
+    }
+
+    fn write(out: &mut [u32]) {
+        out.copy_from_slice(&FLOOR);
+    }
 }

@@ -1,6 +1,7 @@
 // The words of nearest's plan.
-ghost use Rattle.std.specs.Prelude.{◌≡◌};
 ghost use Rattle.plans.specs.words.NearestPlan.{nearest_plan};
+
+use crate::copy::BuiltIn;
 
 const NEAREST: [u32; 301] = [
     0x50580006, 0x60582C3A, 0x505C0001, 0x605C2E3B, 0x10300000, 0x40301800, 0x50301820, 0x600C2C05,
@@ -43,9 +44,17 @@ const NEAREST: [u32; 301] = [
     0x20482415, 0x70102400, 0x300C0604, 0x20080010, 0x20080403,
 ];
 
-// The whole table.
-pub fn words() -> [u32; 301]
-    ensures { result ≡ nearest_plan }
-{
-    NEAREST
+// The plan whose words they are.
+pub struct Nearest;
+
+impl BuiltIn for Nearest {
+    ghost plan = { nearest_plan };
+
+    fn size() -> usize {
+        NEAREST.len()
+    }
+
+    fn write(out: &mut [u32]) {
+        out.copy_from_slice(&NEAREST);
+    }
 }

@@ -3,6 +3,8 @@ ghost use Rattle.std.specs.Prelude.{◌≡◌, ◌<◌, length};
 ghost use Rattle.plans.specs.words.ProductPlan.{product_plan, row_count};
 ghost use Rattle.plans.specs.ProductRows.{head_words, product_word, row_words, tail_words};
 
+use crate::copy::BuiltIn;
+
 const HEAD: [u32; 13] = [
     0x102C0001, 0x50441634, 0x500C000C, 0x600C060C, 0x200C0611, 0x40100000, 0x5010080C, 0x6010080C,
     0x40180200, 0x50180C0C, 0x60180C0C, 0x50140800, 0x101C0000,
@@ -59,7 +61,7 @@ const ROW_WORDS: usize = 13;
 
 const ROWS_END: usize = HEAD_END + ROWS as usize * ROW_WORDS;
 
-pub(crate) const WORDS: usize = ROWS_END + 259;
+const WORDS: usize = ROWS_END + 259;
 
 // The words before the rows.
 fn head() -> [u32; 13]
@@ -86,7 +88,7 @@ fn tail() -> [u32; 259]
 }
 
 // Word i of the plan.
-pub(crate) fn word(i: usize) -> u32
+fn word(i: usize) -> u32
     requires { i < length product_plan }
     ensures { result ≡ product_word i }
 {
@@ -103,4 +105,21 @@ pub(crate) fn word(i: usize) -> u32
     let words = tail();
     let k = i - ROWS_END;
     words[k]
+}
+
+// The plan whose words they are.
+pub struct Product;
+
+impl BuiltIn for Product {
+    ghost plan = { product_plan };
+
+    fn size() -> usize {
+        WORDS
+    }
+
+    fn write(out: &mut [u32]) {
+        for (i, w) in out.iter_mut().enumerate() {
+            *w = word(i);
+        }
+    }
 }

@@ -1,6 +1,7 @@
 // The words of the sum's plan.
-ghost use Rattle.std.specs.Prelude.{◌≡◌};
 ghost use Rattle.plans.specs.words.SumPlan.{sum_plan};
+
+use crate::copy::BuiltIn;
 
 const SUM: [u32; 738] = [
     0x50300201, 0x60301835, 0x50340001, 0x60341A35, 0x50641810, 0x2064320D, 0x40643200, 0x50643220,
@@ -98,9 +99,17 @@ const SUM: [u32; 738] = [
     0x50643234, 0x20080419,
 ];
 
-// The whole table.
-pub fn words() -> [u32; 738]
-    ensures { result ≡ sum_plan }
-{
-    SUM
+// The plan whose words they are.
+pub struct Sum;
+
+impl BuiltIn for Sum {
+    ghost plan = { sum_plan };
+
+    fn size() -> usize {
+        SUM.len()
+    }
+
+    fn write(out: &mut [u32]) {
+        out.copy_from_slice(&SUM);
+    }
 }

@@ -1,6 +1,7 @@
 // The words of truncation's plan.
-ghost use Rattle.std.specs.Prelude.{◌≡◌};
 ghost use Rattle.plans.specs.words.TruncatePlan.{truncate_plan};
+
+use crate::copy::BuiltIn;
 
 const TRUNCATE: [u32; 169] = [
     0x50580006, 0x60582C3A, 0x505C0001, 0x605C2E3B, 0x10300000, 0x40301800, 0x50301820, 0x600C2C05,
@@ -27,9 +28,17 @@ const TRUNCATE: [u32; 169] = [
     0x30080003,
 ];
 
-// The whole table.
-pub fn words() -> [u32; 169]
-    ensures { result ≡ truncate_plan }
-{
-    TRUNCATE
+// The plan whose words they are.
+pub struct Truncate;
+
+impl BuiltIn for Truncate {
+    ghost plan = { truncate_plan };
+
+    fn size() -> usize {
+        TRUNCATE.len()
+    }
+
+    fn write(out: &mut [u32]) {
+        out.copy_from_slice(&TRUNCATE);
+    }
 }

@@ -8,6 +8,12 @@ use native.Mathlib.Nat.{le_trans}
 use native.Mathlib.Numerals.{add-one}
 use lib.ListN.{length, get_or, drop, drop_of_length-le}
 use lib.Seq.{drop-cons}
+use Rattle.std.specs.Prelude.{Result, Ok, Err}
+use Rattle.std.specs.Result.{result_unwrap_or}
+use Rattle.checks.specs.declared.refusal.Refusal.{Refusal}
+use Rattle.checks.specs.declared.refusal.Refusal.TheVariants.{ShareCount, TooLong, BadWord, Length, Place, Tape, Layer, Head}
+use Rattle.checks.specs.declared.refusal.Counts.{Counts}
+use Rattle.checks.specs.Answers.{answer_of, refusal_of}
 use Rattle.checks_run.proofs.RunChecked.{run_counts}
 use Rattle.masking.specs.Runs.{State, Run, told, runs_of, run_rest, run_answer, moved, in_arow}
 use Rattle.masking.proofs.OneRun.{rest_within}
@@ -38,3 +44,18 @@ no_runs counts budgets i h = by (dec_lt i (length counts))
     by : Dec (i < length counts) → runs_of (drop i counts) (drop i budgets) ≡ []
     by (yes l) = ap (runs_of (drop i counts)) (drop_of_length-le budgets {i = i} (omega arith)) ∙ ended (drop i counts)
     by (no l) = ap (λ (cs : List ℕ). runs_of cs (drop i budgets)) (drop_of_length-le counts {i = i} (omega arith))
+
+-- what a result counts: what it holds, or nothing where it is a refusal
+pub counted : (r : Result Counts Refusal) → ((result_unwrap_or r (record { words = 0; tape = 0 })).words ≡ (answer_of r).words) × ((result_unwrap_or r (record { words = 0; tape = 0 })).tape ≡ (answer_of r).tape)
+counted (Ok c) = (refl, refl)
+counted (Err e) = none e
+  where
+    none : (e : Refusal) → (0 ≡ (refusal_of e).words) × (0 ≡ (refusal_of e).tape)
+    none ShareCount = (refl, refl)
+    none TooLong = (refl, refl)
+    none (BadWord place) = (refl, refl)
+    none Length = (refl, refl)
+    none Place = (refl, refl)
+    none Tape = (refl, refl)
+    none Layer = (refl, refl)
+    none Head = (refl, refl)

@@ -5,7 +5,7 @@ ghost use Rattle.std.specs.Prelude.{◌≡◌};
 ghost use Rattle.masking.specs.Demand3.{Demand3Holds};
 ghost use Rattle.masking.specs.Runs.{in_arow, runs_of, standing};
 
-use share_run::rest::smaller;
+use checks::refusal::Counts;
 use share_run::run::share_run;
 
 // Where a list of runs leaves off in the program and on the tape.
@@ -15,8 +15,8 @@ pub struct Places {
     pub tape: usize,
 }
 
-// A share run for each count and budget, as many as there are of both. The cells and places afterwards are those of masking's `in_arow`; of a translated plan from place 0 that is
-// what `Demand3Holds` speaks of.
+// A share run for each count and budget, as many as there are of both; one that is turned down counts nothing. The cells and places afterwards
+// are those of masking's `in_arow`; of a translated plan from place 0 that is what `Demand3Holds` speaks of.
 pub fn runs_in_a_row(
     program: &[u32],
     place: usize,
@@ -33,11 +33,13 @@ pub fn runs_in_a_row(
 {
     let mut p = place;
     let mut t = tape_place;
-    let runs = smaller(counts.len(), budgets.len());
+    // By place: over a `zip` of both slices the proof, which goes by places of `runs_of`, did not close.
+    let runs = counts.len().min(budgets.len());
     for i in 0..runs {
-        let answer = share_run(counts[i], program, p, tape, t, budgets[i], cells);
-        p += answer.words;
-        t += answer.tape;
+        let ran = share_run(counts[i], program, p, tape, t, budgets[i], cells);
+        let done = ran.unwrap_or(Counts::NONE);
+        p += done.words;
+        t += done.tape;
     }
     Places {
         program: p,

@@ -1,5 +1,6 @@
 -- What a share word takes of the tape, by its kind; and that the RANDs of a program without a bad word are good, of one that a run takes, and of a
 -- part of it.
+use Rattle.std.specs.Prelude.{Option, Some, None}
 use mathlib.Core.Path.{◌≡◌, refl, sym, ap, ap₂, ◌∙◌}
 use mathlib.Core.Bool.{Bool, true, false, not, ◌||◌, false≢true}
 use mathlib.Core.List.{List, [], ◌∷◌}
@@ -11,8 +12,6 @@ use lib.Seq.{get_or-drop, get_or-take}
 use borrow.Author.Tests.{eqb-true}
 use Rattle.word.specs.declared.step.Step.{Step}
 use Rattle.word.specs.declared.step.Step.TheVariants.{Const, Xor, And, Not, Shl, Shr, Spread, Add, Rand}
-use Rattle.word.specs.declared.step.Decoded.{Decoded}
-use Rattle.word.specs.declared.step.Decoded.TheVariants.{Good, Bad}
 use Rattle.word.specs.Encoding.{kind_of, kind_number, in_program, program_step, is_good}
 use Rattle.word.specs.Head.{head_word, is_head}
 use Rattle.word.proofs.Small.{share_range}
@@ -47,12 +46,12 @@ none (Add d a b) h = refl
 none (Rand d) h = absurd (h refl)
 
 -- a good RAND takes a tape word
-module _ (w : ℕ) (s : Step) (g : program_step w ≡ Good s) where
+module _ (w : ℕ) (s : Step) (g : program_step w ≡ Some s) where
   kind_is : kind_of w ≡ kind_number s
   kind_is = taken_kind in_program w s g
 
   takes_is : rands (w ∷ []) ≡ takes s
-  takes_is = ap (λ (d : Decoded). rands_of (with_step d [])) g ∙ add-zero (takes s)
+  takes_is = ap (λ (d : Option Step). rands_of (with_step d [])) g ∙ add-zero (takes s)
 
 pub takes_rand : (w : ℕ) → GoodWord w → kind_of w ≡ 9 → rands (w ∷ []) ≡ 1
 takes_rand w g e = takes_is w g.0 g.1 ∙ one g.0 (sym (kind_is w g.0 g.1) ∙ e)
@@ -61,9 +60,9 @@ takes_rand w g e = takes_is w g.0 g.1 ∙ one g.0 (sym (kind_is w g.0 g.1) ∙ e
 pub takes_none : (w : ℕ) → (kind_of w ≡ 9 → ⊥) → rands (w ∷ []) ≡ 0
 takes_none w h = by (program_step w) refl
   where
-    by : (d : Decoded) → program_step w ≡ d → rands (w ∷ []) ≡ 0
-    by (Good s) e = takes_is w s e ∙ none s (λ k. h (kind_is w s e ∙ k))
-    by Bad e = ap (λ (d : Decoded). rands_of (with_step d [])) e
+    by : (d : Option Step) → program_step w ≡ d → rands (w ∷ []) ≡ 0
+    by (Some s) e = takes_is w s e ∙ none s (λ k. h (kind_is w s e ∙ k))
+    by None e = ap (λ (d : Option Step). rands_of (with_step d [])) e
 
 -- the RANDs of a program without a bad word are good, also behind a head, and so are those of a part
 pub all_good : (P : List ℕ) → first_bad program_step P ≡ length P → RandsGood P
@@ -81,10 +80,10 @@ taken_good n (w ∷ P) t (suc i) h k =
 pub one_good : (w : ℕ) → not (is_head w || is_good (program_step w)) ≡ false → RandsGood (w ∷ [])
 one_good w h zero l k = by (is_head w) refl (program_step w) refl
   where
-    by : (b : Bool) → is_head w ≡ b → (d : Decoded) → program_step w ≡ d → GoodWord w
-    by b e (Good s) g = (s, g)
-    by true e Bad g = absurd (omega (arith, k, head_of w e))
-    by false e Bad g = absurd (false≢true (sym h ∙ ap₂ (λ (p : Bool) (d : Decoded). not (p || is_good d)) e g))
+    by : (b : Bool) → is_head w ≡ b → (d : Option Step) → program_step w ≡ d → GoodWord w
+    by b e (Some s) g = (s, g)
+    by true e None g = absurd (omega (arith, k, head_of w e))
+    by false e None g = absurd (false≢true (sym h ∙ ap₂ (λ (p : Bool) (d : Option Step). not (p || is_good d)) e g))
 one_good w h (suc i) l k = absurd (omega (arith, l))
 
 pub part_good : (P : List ℕ) (m k : ℕ) → RandsGood P → RandsGood (take k (drop m P))

@@ -4,7 +4,7 @@ ghost use Rattle.std.specs.Prelude.{◌≡◌, [], ◌∷◌, ◌+◌, ◌≤◌
 ghost use Rattle.word.specs.Encoding.{in_program};
 ghost use Rattle.masking.specs.Machine as machine;
 
-use word::step::{Decoded, Step};
+use word::step::Step;
 use word::step_word::StepWord;
 use word_steps::program_step;
 
@@ -61,7 +61,7 @@ fn word_done(w: u32, tape: &[u64], t: usize, cells: &mut [u64]) -> usize
     ensures place { result ≡ t + machine.rands (w ∷ []) }
     ensures cells { cells.new ≡ machine.exec (w ∷ []) (drop t tape.now) cells.old }
 {
-    let Decoded::Good(s) = program_step(StepWord::of(w)) else {
+    let Some(s) = program_step(StepWord::from(w)) else {
         return t;
     };
     step_done(s, tape, t, cells)
@@ -74,7 +74,7 @@ pub fn exec(words: &[u32], tape: &[u64], cells: &mut [u64])
     ensures { cells.new ≡ machine.exec words.now tape.now cells.old }
 {
     let mut t = 0;
-    for i in 0..words.len() {
-        t = word_done(words[i], tape, t, cells);
+    for w in words {
+        t = word_done(*w, tape, t, cells);
     }
 }

@@ -10,6 +10,7 @@ pub fn rands(words: &[u32]) -> usize
     requires { RandsGood words.now }
     ensures { result ≡ machine.rands words.now }
 {
+    // By place: the compiler makes vectors of this loop, and not of an iterator, which takes five instructions a word more in share run.
     let mut count = 0;
     for i in 0..words.len() {
         if words[i] >> StepWord::KIND_AT == StepWord::RAND {

@@ -10,8 +10,9 @@ use Rattle.masking.proofs.OneRun.{due_length}
 use Rattle.masking.proofs.InARow.{due_take}
 
 -- the part of a program that a run does, and its length
-pub due_part : (P : List ℕ) (m b : ℕ) → take (m + min b (length P - m) - m) (drop m P) ≡ due P m b
-due_part P m b =
+pub due_part : (P : List ℕ) (m b : ℕ) {k : ℕ} → k ≡ min b (length P - m) → take (m + k - m) (drop m P) ≡ due P m b
+due_part P m b e =
+    ap (λ (k : ℕ). take (m + k - m) (drop m P)) e ∙
     ap (λ (k : ℕ). take k (drop m P)) (add-sub_cancel_left m (min b (length P - m)) ∙ sym (due_length P m b)) ∙ due_take P m b
 
 -- a part up to the end

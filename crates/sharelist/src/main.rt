@@ -2,7 +2,7 @@
 // number of the turn-down. A piece of some tens of kilobytes is held at a time, never the whole share program.
 #![tactic(auto)]
 
-ghost use Rattle.std.specs.Prelude.{◌≡◌, ◌<◌, length, take, Some};
+ghost use Rattle.std.specs.Prelude.{◌≡◌, ◌<◌, length, take, Some, is_ok};
 ghost use Rattle.io.specs.Counts.{IsPrefixLen};
 ghost use Rattle.listing_input.specs.Input.{input_max};
 ghost use Rattle.listing.specs.Sharelist.{listing};
@@ -19,41 +19,41 @@ const INPUT: usize = INPUT_MAX + 1;
 
 // Hands on, to standard output, bytes of an input's listing that follow the `sent` ones counted before, and counts them; where that fails it counts
 // none.
-fn hand_on<W: Write + AsRawFd + Copy>(out: W, input: &[u8], text: &[u8], sent: &mut usize) -> bool
+fn hand_on<W: Write + AsRawFd + Copy>(
+    mut out: W,
+    input: &[u8],
+    text: &[u8],
+    sent: &mut usize,
+) -> std::io::Result<()>
     requires fd_value { W.raw_fd out ≡ Some standard_output }
     requires follows { Follows (listing input.now) sent.old text.now }
-    ensures { HandedOn sent.old text.now result sent.new }
+    ensures { HandedOn sent.old text.now (is_ok result) sent.new }
 {
-    let mut out = out;
-    if out.write_all(text).is_ok() {
-        *sent = *sent + text.len();
-        return true;
-    }
-    false
+    out.write_all(text)?;
+    *sent += text.len();
+    Ok(())
 }
 
-// Hands on the listing of an input piece by piece, as long as that goes well; the answer is whether it did to the end.
-fn list<W: Write + AsRawFd + Copy>(out: W, input: &[u8], sent: &mut usize) -> bool
+// Hands on the listing of an input piece by piece, as long as that goes well.
+fn list<W: Write + AsRawFd + Copy>(out: W, input: &[u8], sent: &mut usize) -> std::io::Result<()>
     requires fd_value { W.raw_fd out ≡ Some standard_output }
     requires sent_value { sent.old ≡ 0 }
-    ensures { HandedAll (listing input.now) result sent.new }
+    ensures { HandedAll (listing input.now) (is_ok result) sent.new }
 {
     let mut buffer = io::large_buffer();
     let mut at = 0;
     loop {
         let piece = list_piece(input, at, &mut buffer);
-        let bytes = piece.bytes;
-        if !hand_on(out, input, &buffer[..bytes], sent) {
-            return false;
-        }
+        hand_on(out, input, &buffer[..piece.bytes], sent)?;
         if piece.last {
-            return true;
+            return Ok(());
         }
         at = piece.next;
     }
 }
 
-// What was read: how many bytes, and what the last read answered.
+// What was read: how many bytes, and what the last read answered, which is negative where it failed, as POSIX has it: `Whole` is said of that
+// number, and refuses one that is negative, so that no listing is made of an input whose reading failed.
 #[derive(Clone, Copy)]
 struct Input {
     count: usize,
@@ -66,24 +66,22 @@ fn list_read<W: Write + AsRawFd + Copy>(
     buffer: &[u8],
     read: Input,
     sent: &mut usize,
-) -> bool
+) -> std::io::Result<()>
     requires fd_value { W.raw_fd out ≡ Some standard_output }
     requires prefix_len { IsPrefixLen read.count buffer.now }
     requires whole { Whole read.count read.last }
     requires sent_value { sent.old ≡ 0 }
-    ensures { HandedAll (listing (take read.count buffer.now)) result sent.new }
+    ensures { HandedAll (listing (take read.count buffer.now)) (is_ok result) sent.new }
 {
-    let count = read.count;
-    list(out, &buffer[..count], sent)
+    list(out, &buffer[..read.count], sent)
 }
 
 // One read behind the first `count` bytes, of which there is room for more: they stay, and the answer's bytes are counted.
-fn read_more<R: Read + AsRawFd + Copy>(from: R, input: &mut [u8], count: usize) -> Input
+fn read_more<R: Read + AsRawFd + Copy>(mut from: R, input: &mut [u8], count: usize) -> Input
     requires fd_value { R.raw_fd from ≡ Some standard_input }
     requires count_in_bounds { count < length input.old }
     ensures { MoreRead input.old count input.new result.count result.last }
 {
-    let mut from = from;
     let last = match from.read(&mut input[count..]) {
         Ok(given) => given as isize,
         Err(_) => -1,
@@ -106,8 +104,7 @@ fn read_input<R: Read + AsRawFd + Copy>(from: R, input: &mut [u8]) -> Input
     let mut count = 0;
     loop {
         let read = read_more(from, input, count);
-        let last = read.last;
-        if last <= 0 {
+        if read.last <= 0 {
             return read;
         }
         count = read.count;
@@ -120,13 +117,12 @@ fn read_input<R: Read + AsRawFd + Copy>(from: R, input: &mut [u8]) -> Input
 fn main(rt: HostRuntime) -> std::io::Result<()> {
     let mut input = [0u8; INPUT];
     let read = read_input(rt.stdin(), &mut input);
-    let last = read.last;
-    if last < 0 {
+    if read.last < 0 {
         let _ = eprintln!(rt; "sharelist: cannot read");
         return Ok(());
     }
     let mut sent = 0;
-    if !list_read(rt.stdout(), &input, read, &mut sent) {
+    if list_read(rt.stdout(), &input, read, &mut sent).is_err() {
         let _ = eprintln!(rt; "sharelist: cannot write");
     }
     Ok(())

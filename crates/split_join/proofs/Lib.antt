@@ -1,2 +1,2 @@
--- Split and join: there and back, and what their loops keep (SplitJoin).
+-- Split and join: there and back, and what they make of the words (SplitJoin).
 pub mod SplitJoin

@@ -2,22 +2,25 @@
 #![tactic(auto)]
 
 ghost use Rattle.std.specs.Prelude.{◌≡◌, ◌-◌, ◌+◌, ◌≤◌, ◌<◌, length, take};
-ghost use Rattle.split_join.specs.SplitJoin.{xor_all, split_of, split_answer, split_out, join_answer, joined_word, SplitJoins};
+ghost use Rattle.checks.specs.Answers.{answer_of};
+ghost use Rattle.split_join.specs.SplitJoin.{xor_all, split_of, split_answer, split_out, join_answer, joined_of, joined_word, SplitJoins};
 
 use checks::answer::Answer;
+use checks::refusal::{Counts, Refusal};
 use checks::share_count::is_share_count;
 
 // The answer to n shares and a number of tape words: the turn-downs in number order.
-fn split_answer(n: usize, tape: usize) -> Answer
-    ensures { result ≡ split_answer n tape }
+#[tactic(auto, using(word::proofs::Small::share_range), unfolding(crate::specs::SplitJoin::split_answer))]
+fn split_answer(n: usize, tape: usize) -> Result<Counts, Refusal>
+    ensures { answer_of result ≡ split_answer n tape }
 {
     if !is_share_count(n) {
-        return Answer::refused(1);
+        return Err(Refusal::ShareCount);
     }
     if tape < n - 1 {
-        return Answer::refused(6);
+        return Err(Refusal::Tape);
     }
-    Answer::done(0, 0)
+    Ok(Counts::NONE)
 }
 
 // Shares 1 and up are the tape's words in order; share 0 is the word with all of them taken out.
@@ -25,31 +28,25 @@ fn mask(word: u64, tape: &[u64], out: &mut [u64])
     requires { (0 < length out.old) × (length out.old ≤ length tape.now + 1) }
     ensures { out.new ≡ split_of word (take (length out.old - 1) tape.now) }
 {
-    let mut first = word;
-    let mut i = 0;
-    while i + 1 < out.len() {
-        first = first ^ tape[i];
-        out[i + 1] = tape[i];
-        i += 1;
-    }
-    out[0] = first;
+    let masks = &tape[..out.len() - 1];
+    out[1..].copy_from_slice(masks);
+    out[0] = word ^ unmask(masks);
 }
 
 // Splits `word` into as many shares as `out` has words, by the tape's first words. Turned down with 1 where that is not 2 to 8, and with 6
 // where the tape has fewer than n - 1 words; `out` is then as it was.
-pub fn split(word: u64, tape: &[u64], out: &mut [u64]) -> Answer
-    ensures answer { result ≡ split_answer (length out.old) (length tape.now) }
+#[tactic(auto, using(crate::proofs::SplitJoin::split_joins))]
+pub fn split(word: u64, tape: &[u64], out: &mut [u64]) -> Result<Counts, Refusal>
+    ensures answer { answer_of result ≡ split_answer (length out.old) (length tape.now) }
     ensures out { out.new ≡ split_out word tape.now out.old }
     ensures holds { SplitJoins }
 {
-    let answer = split_answer(out.len(), tape.len());
-    if answer.number == 0 {
-        mask(word, tape, out);
-    }
-    answer
+    let counts = split_answer(out.len(), tape.len())?;
+    mask(word, tape, out);
+    Ok(counts)
 }
 
-// The answer of join, and the word joined: 0 when turned down.
+// The answer of join for C, and the word joined: 0 when turned down.
 #[repr(C)]
 #[derive(Clone, Copy)]
 pub struct Joined {
@@ -57,36 +54,39 @@ pub struct Joined {
     pub word: u64,
 }
 
-fn join_answer(n: usize) -> Answer
-    ensures { result ≡ join_answer n }
-{
-    if !is_share_count(n) {
-        return Answer::refused(1);
+impl From<Result<u64, Refusal>> for Joined {
+    ghost from_gives = { λ r j. j ≡ joined_of r };
+
+    fn from(r: Result<u64, Refusal>) -> Joined {
+        match r {
+            Ok(word) => Joined {
+                answer: Answer::from(Ok(Counts::NONE)),
+                word,
+            },
+            Err(e) => Joined {
+                answer: Answer::from(e),
+                word: 0,
+            },
+        }
     }
-    Answer::done(0, 0)
 }
 
 // The exclusive-or of all shares.
 fn unmask(shares: &[u64]) -> u64
     ensures { result ≡ xor_all shares.now }
 {
-    let mut word: u64 = 0;
-    for i in 0..shares.len() {
-        word = word ^ shares[i];
-    }
-    word
+    shares.iter().fold(0, |word, share| word ^ *share)
 }
 
 // Joins shares to their word. Turned down with 1 where they are not 2 to 8.
-pub fn join(shares: &[u64]) -> Joined
-    ensures answer { result.answer ≡ join_answer (length shares.now) }
-    ensures word { result.word ≡ joined_word shares.now }
+#[tactic(auto, using(crate::proofs::SplitJoin::split_joins), unfolding(crate::specs::SplitJoin::join_answer))]
+pub fn join(shares: &[u64]) -> Result<u64, Refusal>
+    ensures answer { (joined_of result).answer ≡ join_answer (length shares.now) }
+    ensures word { (joined_of result).word ≡ joined_word shares.now }
     ensures holds { SplitJoins }
 {
-    let answer = join_answer(shares.len());
-    if answer.number == 0 {
-        let word = unmask(shares);
-        return Joined { answer, word };
+    if !is_share_count(shares.len()) {
+        return Err(Refusal::ShareCount);
     }
-    Joined { answer, word: 0 }
+    Ok(unmask(shares))
 }

@@ -1,13 +1,15 @@
 // The machine's own binary64 operations on words, and what a comparison with the plain ones finds.
 
-pub const SKIPPED: u64 = 0;
+#[derive(Clone, Copy, PartialEq, Eq)]
+pub enum Outcome {
+    Skipped,
+    Same,
+    Different,
+    // Where the documents depart from IEEE 754, and the plain result is what they say.
+    Apart,
+}
 
-pub const SAME: u64 = 1;
-
-pub const DIFFERENT: u64 = 2;
-
-// Where the documents depart from IEEE 754, and the plain result is what they say.
-pub const APART: u64 = 3;
+const SIGN: u64 = 0x8000_0000_0000_0000;
 
 const LEAST_NORMAL: u64 = 0x0010_0000_0000_0000;
 
@@ -40,21 +42,23 @@ fn bits(x: f64) -> u64 {
 // A zero or a normal number: what document 01 and IEEE 754 read alike.
 fn plain(a: u64) -> bool {
     let m = magnitude(a);
-    if m == 0 {
-        return true;
-    }
-    if m < LEAST_NORMAL {
-        return false;
-    }
-    m < INFINITY
+    m == 0 || LEAST_NORMAL <= m && m < INFINITY
 }
 
-fn compared(ours: u64, theirs: u64) -> u64 {
-    if ours == theirs { SAME } else { DIFFERENT }
+fn compared(ours: u64, theirs: u64) -> Outcome {
+    if ours == theirs {
+        Outcome::Same
+    } else {
+        Outcome::Different
+    }
 }
 
-fn apart(ours: u64, said: u64) -> u64 {
-    if ours == said { APART } else { DIFFERENT }
+fn apart(ours: u64, said: u64) -> Outcome {
+    if ours == said {
+        Outcome::Apart
+    } else {
+        Outcome::Different
+    }
 }
 
 // The number in 1..2 with a's fraction.
@@ -80,7 +84,7 @@ fn lost(x: f64, y: f64, p: f64) -> f64 {
 // Whether the exact product of two normal numbers is below 2^-1022: by the sum of their exponents or, where that leaves it open, by
 // whether the product of their significands is below 2.
 fn below_normal(a: u64, b: u64) -> bool {
-    let e = std::num::wrapping_add_u64((a >> 52) & 0x7ff, (b >> 52) & 0x7ff);
+    let e = ((a >> 52) & 0x7ff) + ((b >> 52) & 0x7ff);
     if e != 1023 {
         return e < 1023;
     }
@@ -94,37 +98,25 @@ fn below_normal(a: u64, b: u64) -> bool {
 }
 
 // An exact product below 2^-1022 is a zero of its sign by document 01, whatever it is natively: the least normal number, or a smaller one.
-pub fn product(a: u64, b: u64) -> u64 {
-    if !plain(a) {
-        return SKIPPED;
-    }
-    if !plain(b) {
-        return SKIPPED;
+pub fn product(a: u64, b: u64) -> Outcome {
+    if !plain(a) || !plain(b) {
+        return Outcome::Skipped;
     }
     let ours = binary64_plain::product(a, b);
-    if magnitude(a) != 0 {
-        if magnitude(b) != 0 {
-            if below_normal(a, b) {
-                return apart(ours, (a ^ b) & 0x8000_0000_0000_0000);
-            }
-        }
+    if magnitude(a) != 0 && magnitude(b) != 0 && below_normal(a, b) {
+        return apart(ours, (a ^ b) & SIGN);
     }
     compared(ours, bits(number(a) * number(b)))
 }
 
 // A sum that comes out below the least normal number is exact, and if it is not zero, document 01 makes it a zero of its sign.
-pub fn sum(a: u64, b: u64) -> u64 {
-    if !plain(a) {
-        return SKIPPED;
-    }
-    if !plain(b) {
-        return SKIPPED;
+pub fn sum(a: u64, b: u64) -> Outcome {
+    if !plain(a) || !plain(b) {
+        return Outcome::Skipped;
     }
     let theirs = bits(number(a) + number(b));
-    if magnitude(theirs) != 0 {
-        if magnitude(theirs) < LEAST_NORMAL {
-            return apart(binary64_plain::sum(a, b), theirs & 0x8000_0000_0000_0000);
-        }
+    if magnitude(theirs) != 0 && magnitude(theirs) < LEAST_NORMAL {
+        return apart(binary64_plain::sum(a, b), theirs & SIGN);
     }
     compared(binary64_plain::sum(a, b), theirs)
 }
@@ -149,10 +141,10 @@ fn whole(x: f64) -> f64 {
 // A rounding that keeps the sign: `rounded` is what the number or its magnitude rounds to natively, and the sign of a is put back; from 2^52 on a is
 // whole. At E = 0 the two agree whatever F is, for what IEEE 754 reads there rounds to a zero too, but for floor below zero. At E = 2047, where it
 // reads no number, the documents have the operand.
-fn sign_kept(ours: u64, a: u64, rounded: f64) -> u64 {
+fn sign_kept(ours: u64, a: u64, rounded: f64) -> Outcome {
     let m = magnitude(a);
     if m < WHOLE {
-        return compared(ours, bits(rounded) | (a & 0x8000_0000_0000_0000));
+        return compared(ours, bits(rounded) | (a & SIGN));
     }
     if m < INFINITY {
         return compared(ours, bits(number(a)));
@@ -161,20 +153,18 @@ fn sign_kept(ours: u64, a: u64, rounded: f64) -> u64 {
 }
 
 // A word with E = 0 and the sign set is minus zero in the documents; where its F is not 0, IEEE 754 reads a number, whose floor is -1.
-pub fn floor(a: u64) -> u64 {
-    if 0x8000_0000_0000_0000 < a {
-        if a < 0x8010_0000_0000_0000 {
-            return apart(binary64_whole::floor(a), 0x8000_0000_0000_0000);
-        }
+pub fn floor(a: u64) -> Outcome {
+    if SIGN < a && a < SIGN | LEAST_NORMAL {
+        return apart(binary64_whole::floor(a), SIGN);
     }
     sign_kept(binary64_whole::floor(a), a, whole(number(a)))
 }
 
 // The magnitude's floor, by the adder too: Rattle's conversions that drop a fraction do so on the bits, and not by the processor's own.
-pub fn truncate(a: u64) -> u64 {
+pub fn truncate(a: u64) -> Outcome {
     sign_kept(binary64_whole::truncate(a), a, whole(number(magnitude(a))))
 }
 
-pub fn nearest(a: u64) -> u64 {
+pub fn nearest(a: u64) -> Outcome {
     sign_kept(binary64_whole::nearest(a), a, near(number(magnitude(a))))
 }

@@ -2,35 +2,26 @@
 ghost use Rattle.std.specs.Prelude.{◌≤◌};
 
 // Fractions at edges: zero, the least, the greatest and the one before it, half and its neighbours, two.
-fn fraction(k: u64) -> u64 {
-    match k {
-        0 => 0,
-        1 => 1,
-        2 => 0xf_ffff_ffff_ffff,
-        3 => 0x8_0000_0000_0000,
-        4 => 0x8_0000_0000_0001,
-        5 => 0x7_ffff_ffff_ffff,
-        6 => 0xf_ffff_ffff_fffe,
-        _ => 2,
-    }
-}
+const FRACTIONS: [u64; 8] = [
+    0,
+    1,
+    0xf_ffff_ffff_ffff,
+    0x8_0000_0000_0000,
+    0x8_0000_0000_0001,
+    0x7_ffff_ffff_ffff,
+    0xf_ffff_ffff_fffe,
+    2,
+];
 
 // Exponents at edges: zero, the least and the greatest normal ones, around 1, and where whole numbers begin and end.
+const EXPONENTS: [u64; 12] = [0, 1, 2, 54, 970, 1022, 1023, 1024, 1074, 1075, 2045, 2046];
+
+fn fraction(k: u64) -> u64 {
+    FRACTIONS[(k % 8) as usize]
+}
+
 fn exponent(k: u64) -> u64 {
-    match k {
-        0 => 0,
-        1 => 1,
-        2 => 2,
-        3 => 54,
-        4 => 970,
-        5 => 1022,
-        6 => 1023,
-        7 => 1024,
-        8 => 1074,
-        9 => 1075,
-        10 => 2045,
-        _ => 2046,
-    }
+    EXPONENTS[(k % 12) as usize]
 }
 
 // A word from its fields; each is cut to its place.
@@ -40,16 +31,16 @@ fn word(s: u64, e: u64, f: u64) -> u64 {
 
 // The edges, 192 of them: by their number the sign, fraction and exponent.
 fn edge(k: u64) -> u64 {
-    word(k % 2, exponent(k / 16 % 12), fraction(k / 2 % 8))
+    word(k % 2, exponent(k / 16), fraction(k / 2))
 }
 
 // A number in 1..2 and one d exponents below it, by the number k of their fractions and signs.
 fn larger(k: u64) -> u64 {
-    word(k % 2, 1023, fraction(k / 4 % 8))
+    word(k % 2, 1023, fraction(k / 4))
 }
 
 fn smaller(k: u64, d: u64) -> u64 {
-    word(k / 2 % 2, 1023 - d % 71, fraction(k / 32 % 8))
+    word(k / 2 % 2, 1023 - d % 71, fraction(k / 32))
 }
 
 // The exponent e in a word that keeps its other bits.
@@ -57,7 +48,8 @@ fn placed(r: u64, e: u64) -> u64 {
     word(r >> 63, e, r)
 }
 
-// The first operand of a pair at random, by the way of shaping.
+// The first operand of a pair at random, by the way of shaping. A way is a pair's number modulo 8, which `match` reads as it is: an enum would
+// have to be made of that remainder by another such `match`.
 fn drawn_first(way: u64, r: u64) -> u64 {
     match way {
         // any word
@@ -78,7 +70,7 @@ fn near_half(r: u64) -> u64 {
     let e = 1022 + r / 2048 % 53;
     let below = 1074 - e;
     let half = (placed(r, e) >> below) << below;
-    std::num::wrapping_sub_u64(std::num::wrapping_add_u64(half, r % 3), 1)
+    half.wrapping_add(r % 3).wrapping_sub(1)
 }
 
 // Two less than the exponents' sum at which a product overflows, or underflows; whole turns of 2048 do not matter.

@@ -4,6 +4,7 @@
 
 ghost use Rattle.std.specs.Prelude.{◌≤◌};
 
+use checks::refusal::{Counts, Refusal};
 use std::io;
 
 // The operands of document 01's table, the least and greatest of each kind, and where rounding to a whole number turns.
@@ -40,48 +41,73 @@ const EDGES: [u64; 26] = [
 const DRAWN: u64 = 1000;
 
 fn joined(shares: &[u64]) -> u64 {
-    let j = split_join::join(shares);
-    j.word
+    split_join::join(shares).unwrap_or(0)
 }
 
-// 0 where a call was done and joins to the plain result, else 1.
-fn off(number: u32, word: u64, plain: u64) -> u64 {
-    if number == 0 && word == plain { 0 } else { 1 }
+#[derive(Clone, Copy)]
+enum Operation {
+    Product,
+    Sum,
+    Floor,
+    Truncate,
+    Nearest,
 }
 
-// The operations by their number; those from 2 on take the first operand alone.
-const OPERATIONS: u64 = 5;
+impl Operation {
+    const ALL: [Operation; 5] = [
+        Operation::Product,
+        Operation::Sum,
+        Operation::Floor,
+        Operation::Truncate,
+        Operation::Nearest,
+    ];
 
-fn plain_result(op: u64, a: u64, b: u64) -> u64 {
-    match op {
-        0 => binary64_plain::product(a, b),
-        1 => binary64_plain::sum(a, b),
-        2 => binary64_whole::floor(a),
-        3 => binary64_whole::truncate(a),
-        _ => binary64_whole::nearest(a),
+    // On plain words; the operations from floor on take the first operand alone.
+    fn plain(self, a: u64, b: u64) -> u64 {
+        match self {
+            Operation::Product => binary64_plain::product(a, b),
+            Operation::Sum => binary64_plain::sum(a, b),
+            Operation::Floor => binary64_whole::floor(a),
+            Operation::Truncate => binary64_whole::truncate(a),
+            Operation::Nearest => binary64_whole::nearest(a),
+        }
+    }
+
+    // On shares.
+    fn on_shares(
+        self,
+        x: &[u64],
+        y: &[u64],
+        tape: &[u64],
+        res: &mut [u64],
+    ) -> Result<Counts, Refusal> {
+        let mut work = [0u64; 512];
+        match self {
+            Operation::Product => operations::product(x, y, res, &mut work, tape),
+            Operation::Sum => operations::sum(x, y, res, &mut work, tape),
+            Operation::Floor => operations::floor(x, res, &mut work, tape),
+            Operation::Truncate => operations::truncate(x, res, &mut work, tape),
+            Operation::Nearest => operations::nearest(x, res, &mut work, tape),
+        }
     }
 }
 
-// The number that the operation on shares answers.
-fn answered(op: u64, x: &[u64], y: &[u64], tape: &[u64], res: &mut [u64]) -> u32 {
-    let mut work = [0u64; 512];
-    let answer = match op {
-        0 => operations::product(x, y, res, &mut work, tape),
-        1 => operations::sum(x, y, res, &mut work, tape),
-        2 => operations::floor(x, res, &mut work, tape),
-        3 => operations::truncate(x, res, &mut work, tape),
-        _ => operations::nearest(x, res, &mut work, tape),
-    };
-    answer.number
-}
-
-fn lent_off(op: u64, a: u64, b: u64, x: &[u64], y: &[u64], tape: &[u64], res: &mut [u64]) -> u64 {
-    let number = answered(op, x, y, tape, res);
-    off(number, joined(res), plain_result(op, a, b))
+// 0 where the call is done and joins to the plain result, else 1.
+fn lent_off(
+    op: Operation,
+    a: u64,
+    b: u64,
+    x: &[u64],
+    y: &[u64],
+    tape: &[u64],
+    res: &mut [u64],
+) -> u64 {
+    let done = op.on_shares(x, y, tape, res).is_ok();
+    u64::from(!(done && joined(res) == op.plain(a, b)))
 }
 
 // Whether an operation is off on shares x and y of a and b.
-fn operation_off(op: u64, n: usize, a: u64, b: u64, x: &[u64], y: &[u64], tape: &[u64]) -> u64
+fn operation_off(op: Operation, n: usize, a: u64, b: u64, x: &[u64], y: &[u64], tape: &[u64]) -> u64
     requires { n ≤ 8 }
 {
     let mut result = [0u64; 8];
@@ -92,9 +118,9 @@ fn operation_off(op: u64, n: usize, a: u64, b: u64, x: &[u64], y: &[u64], tape: 
 fn operations_off(n: usize, a: u64, b: u64, x: &[u64], y: &[u64], tape: &[u64]) -> u64
     requires { n ≤ 8 }
 {
-    let mut count = 0;
-    for op in 0..OPERATIONS {
-        count = std::num::wrapping_add_u64(count, operation_off(op, n, a, b, x, y, tape));
+    let mut count: u64 = 0;
+    for op in Operation::ALL {
+        count = count.wrapping_add(operation_off(op, n, a, b, x, y, tape));
     }
     count
 }
@@ -111,8 +137,8 @@ fn split_off(
 ) -> u64
     requires { n ≤ 8 }
 {
-    split_join::split(a, masks, x);
-    split_join::split(b, tape, y);
+    let _ = split_join::split(a, masks, x);
+    let _ = split_join::split(b, tape, y);
     operations_off(n, a, b, x, y, tape)
 }
 
@@ -129,12 +155,11 @@ fn pair_off(n: usize, a: u64, b: u64, tape: &[u64], masks: &[u64]) -> u64
 fn edges_off(n: usize, tape: &[u64], masks: &[u64]) -> u64
     requires { n ≤ 8 }
 {
-    let mut count = 0;
-    for i in 0..676usize {
-        count = std::num::wrapping_add_u64(
-            count,
-            pair_off(n, EDGES[i / 26], EDGES[i % 26], tape, masks),
-        );
+    let mut count: u64 = 0;
+    for a in &EDGES {
+        for b in &EDGES {
+            count = count.wrapping_add(pair_off(n, *a, *b, tape, masks));
+        }
     }
     count
 }
@@ -142,12 +167,12 @@ fn edges_off(n: usize, tape: &[u64], masks: &[u64]) -> u64
 fn drawn_off(n: usize, tape: &[u64], masks: &[u64]) -> u64
     requires { n ≤ 8 }
 {
-    let mut count = 0;
+    let mut count: u64 = 0;
     let mut seed: u64 = 0x9e37_79b9_7f4a_7c15;
-    for _i in 0..DRAWN {
+    for _ in 0..DRAWN {
         let a = test_words::next(seed);
         seed = test_words::next(a);
-        count = std::num::wrapping_add_u64(count, pair_off(n, a, seed, tape, masks));
+        count = count.wrapping_add(pair_off(n, a, seed, tape, masks));
     }
     count
 }

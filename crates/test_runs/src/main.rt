@@ -2,7 +2,8 @@
 // zero, for a plan of every kind and n = 2..8. Writes for each n the counts, what differs and what is left.
 #![tactic(auto)]
 
-use std::io;
+use checks::refusal::Counts;
+use std::{fmt, io};
 
 // CONST, XOR, AND, NOT, SHL, SHR, SPREAD and ADD, with distinct and with equal registers.
 const PLAN: [u32; 12] = [
@@ -14,86 +15,74 @@ const PLAN: [u32; 12] = [
 const BUDGETS: [usize; 13] = [1, 3, 0, 5, 23, 17, 101, 999, 47, 1, 2001, 3333, 7777];
 
 // How many words of two slices differ, by place.
-fn different(a: &[u64], b: &[u64]) -> u64 {
-    let mut count = 0;
-    for i in 0..a.len() {
-        if i < b.len() {
-            if a[i] != b[i] {
-                count = std::num::wrapping_add_u64(count, 1);
-            }
-        }
-    }
-    count
+fn different(a: &[u64], b: &[u64]) -> usize {
+    a.iter().zip(b).filter(|(x, y)| **x != **y).count()
 }
 
 // Register r of n shares joined: cells 32i + r.
 fn joined(cells: &[u64], n: usize, r: usize) -> u64 {
-    let mut word = 0;
-    for i in 0..16usize {
-        let at = 32 * i + r % 32;
-        if i < n {
-            if at < cells.len() {
-                word = word ^ cells[at];
-            }
-        }
-    }
-    word
+    cells
+        .iter()
+        .skip(r)
+        .step_by(32)
+        .take(n)
+        .fold(0, |word, share| word ^ *share)
 }
 
-fn join_all(cells: &[u64], n: usize, out: &mut [u64]) {
-    for r in 0..out.len() {
-        out[r] = joined(cells, n, r);
+fn join_all(cells: &[u64], n: usize) -> [u64; 32] {
+    let mut registers = [0; 32];
+    for (r, register) in registers.iter_mut().enumerate() {
+        *register = joined(cells, n, r);
     }
-}
-
-// A label and a number.
-fn noted(rt: &HostRuntime, label: &str, n: u64) -> io::Result<()> {
-    print!(rt; "{label}{n}")
+    registers
 }
 
 // Whether a cell is AND's scratch for n shares: y and z from 256 and 264 on, t and u at 272 and 273.
 fn is_scratch(at: usize, n: usize) -> bool {
-    if at < 256 {
-        return false;
+    match at {
+        256..=271 => at % 8 < n,
+        272 | 273 => true,
+        _ => false,
     }
-    if at < 272 { at % 8 < n } else { at < 274 }
 }
 
 // How many of AND's scratch cells are not zero.
-fn left_over(cells: &[u64], n: usize) -> u64 {
-    let mut count = 0;
-    for at in 0..cells.len() {
-        if is_scratch(at, n) {
-            if cells[at] != 0 {
-                count = std::num::wrapping_add_u64(count, 1);
-            }
-        }
-    }
-    count
+fn left_over(cells: &[u64], n: usize) -> usize {
+    cells
+        .iter()
+        .enumerate()
+        .filter(|(at, cell)| is_scratch(*at, n) && **cell != 0)
+        .count()
 }
 
-fn line(
-    rt: &HostRuntime,
-    n: usize,
-    words: usize,
-    tape: usize,
-    split: u64,
-    plain: u64,
-    left: u64,
-) -> io::Result<()> {
-    noted(rt, "n ", n as u64)?;
-    noted(rt, " words ", words as u64)?;
-    noted(rt, " tape ", tape as u64)?;
-    noted(rt, " cells that differ ", split)?;
-    noted(rt, " registers that differ ", plain)?;
-    noted(rt, " scratch cells left ", left)?;
-    println!(rt)
+// What the runs of one share count come to.
+#[derive(Drop)]
+struct Compared {
+    counts: Counts,
+    split: usize,
+    plain: usize,
+    left: usize,
+}
+
+impl fmt::Display for Compared {
+    fn fmt<W: fmt::Write>(&self, f: &mut fmt::Formatter<W>) -> fmt::Result {
+        write!(f, "words {} tape {}", self.counts.words, self.counts.tape)?;
+        write!(f, " cells that differ {}", self.split)?;
+        write!(f, " registers that differ {}", self.plain)?;
+        write!(f, " scratch cells left {}", self.left)
+    }
+}
+
+// 512 cells at random, the same ones for each run of n shares.
+fn start(n: usize) -> [u64; 512] {
+    let mut cells = [0; 512];
+    test_words::fill(n as u64, &mut cells);
+    cells
 }
 
 // The cells that differ from runs in a row over the same start.
-fn split_off(n: usize, program: &[u32], tape: &[u64], whole: &[u64]) -> u64 {
-    let mut parts = [0u64; 512];
-    test_words::fill(n as u64, &mut parts);
+fn split_off(n: usize, program: &[u32], tape: &[u64], whole: &[u64]) -> usize {
+    let mut parts = start(n);
     let mut counts = [n; 13];
     counts[4] = 9;
     counts[8] = if n == 2 { 3 } else { 2 };
@@ -102,46 +91,22 @@ fn split_off(n: usize, program: &[u32], tape: &[u64], whole: &[u64]) -> u64 {
 }
 
 // The registers that join to something else than the plan gives unsplit.
-fn plain_off(n: usize, whole: &[u64]) -> u64 {
-    let mut start = [0u64; 512];
-    test_words::fill(n as u64, &mut start);
-    let mut plain = [0u64; 32];
-    join_all(&start, n, &mut plain);
-    plain::plain_run(&PLAN, &mut plain);
-    let mut after = [0u64; 32];
-    join_all(whole, n, &mut after);
-    different(&plain, &after)
+fn plain_off(n: usize, whole: &[u64]) -> usize {
+    let mut plain = join_all(&start(n), n);
+    let _ = plain::plain_run(&PLAN, &mut plain);
+    different(&plain, &join_all(whole, n))
 }
 
 // One share count: a run in a go, the same in a row, and the plan unsplit.
-fn compare(
-    rt: &HostRuntime,
-    n: usize,
-    program: &[u32],
-    tape: &[u64],
-    words: usize,
-) -> io::Result<()> {
-    let mut whole = [0u64; 512];
-    test_words::fill(n as u64, &mut whole);
-    let answer = share_run::run::share_run(n, program, 0, tape, 0, words, &mut whole);
-    line(
-        rt,
-        n,
-        answer.words,
-        answer.tape,
-        split_off(n, program, tape, &whole),
-        plain_off(n, &whole),
-        left_over(&whole, n),
-    )
-}
-
-fn translated(rt: &HostRuntime, n: usize, tape: &[u64], out: &mut [u32]) -> io::Result<()> {
-    let answer = translation::translate::translate(n, &PLAN, out);
-    let words = answer.words;
-    if words <= out.len() {
-        return compare(rt, n, &out[..words], tape, words);
+fn compare(n: usize, program: &[u32], tape: &[u64]) -> Compared {
+    let mut whole = start(n);
+    let run = share_run::run::share_run(n, program, 0, tape, 0, program.len(), &mut whole);
+    Compared {
+        counts: run.unwrap_or(Counts::NONE),
+        split: split_off(n, program, tape, &whole),
+        plain: plain_off(n, &whole),
+        left: left_over(&whole, n),
     }
-    Ok(())
 }
 
 fn main(rt: HostRuntime) -> io::Result<()> {
@@ -149,7 +114,12 @@ fn main(rt: HostRuntime) -> io::Result<()> {
     test_words::fill(77, &mut tape);
     let mut buffer = [0u32; 10000];
     for n in 2..9usize {
-        translated(&rt, n, &tape, &mut buffer)?;
+        let counts = translation::translate::translate(n, &PLAN, &mut buffer).unwrap_or(
+            Counts::NONE,
+        );
+        if let Some(program) = buffer.get(..counts.words) {
+            println!(rt; "n {n} {}", compare(n, program, &tape))?;
+        }
     }
     Ok(())
 }

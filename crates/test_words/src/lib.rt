@@ -10,9 +10,9 @@ pub fn next(seed: u64) -> u64 {
 
 // As many words as `out` has.
 pub fn fill(seed: u64, out: &mut [u64]) {
-    let mut s = seed;
-    for i in 0..out.len() {
-        s = next(s);
-        out[i] = s;
+    let mut word = seed;
+    for x in out.iter_mut() {
+        word = next(word);
+        *x = word;
     }
 }

@@ -11,9 +11,11 @@ use lib.ListN.{length, drop, get_or}
 use lib.Seq.{drop-cons}
 use borrow.Author.Tests.{ltb-false, ne_eqb}
 use Rattle.checks.specs.declared.answer.Answer.{Answer}
+use Rattle.checks.specs.declared.refusal.Refusal.{Refusal}
+use Rattle.checks.specs.declared.refusal.Refusal.TheVariants.{ShareCount, TooLong, BadWord, Length, Place, Tape, Layer, Head}
 use Rattle.word.specs.Encoding.{plan_step, kind_of}
 use Rattle.word.specs.Layout.{length_of, tape_of, and_length, add_length, plan_max, word_max, is_share_count}
-use Rattle.checks.specs.Answers.{refused, given, plan_checked}
+use Rattle.checks.specs.Answers.{refused, given, plan_checked, refusal_of}
 use Rattle.checks.proofs.Passed.{passed}
 use Rattle.checks.proofs.Checked.{Passes, plan_check}
 use Rattle.word.proofs.Small.{in_range, length_le, tape_le}
@@ -75,6 +77,17 @@ module _ (n : ℕ) (least : 1 ≤ n) (most : n ≤ 8) (plan : List ℕ) {words t
 
 -- ---- answers
 
+-- a refusal is not done
+refused_number : (e : Refusal) → (refusal_of e).number ≡ 0 → ⊥
+refused_number ShareCount h = absurd (omega (arith, h))
+refused_number TooLong h = absurd (omega (arith, h))
+refused_number (BadWord place) h = absurd (omega (arith, h))
+refused_number Length h = absurd (omega (arith, h))
+refused_number Place h = absurd (omega (arith, h))
+refused_number Tape h = absurd (omega (arith, h))
+refused_number Layer h = absurd (omega (arith, h))
+refused_number Head h = absurd (omega (arith, h))
+
 module _ (n : ℕ) (plan : List ℕ) (x : Answer) where
   -- a plan that is turned down is so whatever comes next
   pub turned_down : (y : Answer) → x.number ≡ 0 → ((plan_for n plan x).number ≡ 0 → ⊥) → plan_for n plan x ≡ plan_for n plan y
@@ -85,6 +98,9 @@ module _ (n : ℕ) (plan : List ℕ) (x : Answer) where
           → given p (refused 1) (plan_checked plan x) ≡ given p (refused 1) (plan_checked plan y)
       by true z h = refl
       by false z h = plan_check.down plan x y z h
+
+  pub refused_still : (y : Answer) (e : Refusal) → x.number ≡ 0 → refusal_of e ≡ plan_for n plan x → refusal_of e ≡ plan_for n plan y
+  refused_still y e z h = h ∙ turned_down y z (λ w. refused_number e (ap (λ (a : Answer). a.number) h ∙ w))
 
   module _ (h : (plan_for n plan x).number ≡ 0) where
     passes : (not (is_share_count n) ≡ false) × Passes plan_max plan_step plan

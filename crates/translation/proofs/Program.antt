@@ -28,7 +28,7 @@ module _ (n : ℕ) (plan : List ℕ) (A : Accepted n plan) where
     next_word = ap (program n) (drop-cons plan i 0 l) ∙ ap (λ (k : ℕ). words_for n (plan_step (get_or plan i 0)) ++ program n (drop k plan)) (sym (add-one i))
 
     -- there is room for the next word's words
-    pub next_fits : 1 + foretold_words n plan ≤ length out₀ → at + length (words_for n (plan_step (get_or plan i 0))) ≤ length out
+    next_fits : 1 + foretold_words n plan ≤ length out₀ → at + length (words_for n (plan_step (get_or plan i 0))) ≤ length out
     next_fits r =
         omega (
           arith,
@@ -52,6 +52,11 @@ module _ (n : ℕ) (plan : List ℕ) (A : Accepted n plan) where
           long = ap length e ∙ length-sets out at ws ∙ g.long;
         }
 
+  -- there is room where d had it and the head is its first word
+  pub next_room : (h : ℕ) (d : List ℕ) {out : List ℕ} {at i : ℕ} → Going n plan (set d 0 h) out at i → i < length plan → 1 + foretold_words n plan ≤ length d
+      → at + length (words_for n (plan_step (get_or plan i 0))) ≤ length out
+  next_room h d {out} {at} {i} g l r = next_fits (set d 0 h) out at i g l (omega (arith, length-set d 0 h))
+
   -- all are written, behind a head in what was d
   pub gone : (h : ℕ) (d out : List ℕ) (at i : ℕ) → Going n plan (set d 0 h) out at i → length plan ≤ i → 1 + foretold_words n plan ≤ length d
       → out ≡ (h ∷ program n plan) ++ drop (length (h ∷ program n plan)) d
@@ -62,7 +67,3 @@ module _ (n : ℕ) (plan : List ℕ) (A : Accepted n plan) where
 
 pub going : (n : ℕ) (plan out : List ℕ) → Going n plan out out 1 0
 going n plan out = record { same = refl; ends = refl; long = refl }
-
--- a first word changed, there is as much room
-pub set_room : (h k : ℕ) (d : List ℕ) → k ≤ length d → k ≤ length (set d 0 h)
-set_room h k d l = omega (arith, length-set d 0 h)

@@ -1,5 +1,6 @@
 -- A plan's word straight: it is share 0's word, and in the kinds that come once per share the others' are in a row behind it. Rests on Rows and
 -- Laid, and on word's Together.
+use Rattle.std.specs.Prelude.{Some}
 use mathlib.Core.Path.{◌≡◌, refl, sym, ap, ap₂, subst, ◌∙◌}
 use mathlib.Core.Bool.{cond, not}
 use mathlib.Core.Logic.{⊎_elim}
@@ -11,7 +12,6 @@ use lib.Dec.{T, eqb, ltb, ltb→lt}
 use lib.ListN.{length}
 use Rattle.word.specs.declared.step.Step.{Step}
 use Rattle.word.specs.declared.step.Step.TheVariants.{Const, Xor, And, Not, Shl, Shr, Spread, Add, Rand}
-use Rattle.word.specs.declared.step.Decoded.TheVariants.{Good}
 use Rattle.word.specs.Encoding.{kind_of, kind_number, number_fits, within, in_plan, plan_step, put, word_of}
 use Rattle.word.specs.Parts.{OfParts, OfNone}
 use Rattle.word.specs.Table.{dest, reads, Each}
@@ -22,7 +22,7 @@ use Rattle.masking.proofs.emitted.Places.{share_register}
 use Rattle.masking.proofs.emitted.Steps.{taken_kind}
 use Rattle.emission_rows.specs.declared.Cells.{Cells}
 use Rattle.translation_word.specs.inner.Good.{PlanWord}
-use Rattle.emission_rows.specs.inner.Written.{row_of, cells_on, Fits, EachFits}
+use Rattle.emission_rows.specs.inner.Written.{row_of, Rises, cells_on, Fits, EachFits}
 use Rattle.emission_rows.proofs.Rows.{row_length, each_row}
 use Rattle.emission_rows.proofs.Each.{fixed, fixed_fits, stays}
 
@@ -34,7 +34,7 @@ module _ (w : ℕ) (lt : w < 2 ^ 32) (p : PlanWord w) where
       ⊎_elim (λ (q : OfParts in_plan w). ap word_of (same_step p.step q.step (sym p.apart ∙ q.apart)) ∙ q.together)
       (λ (q : OfNone in_plan w). never p.step (sym q.apart ∙ p.apart)) (plan_exact.every w lt)
 
-abbrev pub plan_good : (w : ℕ) (s : Step) → plan_step w ≡ Good s → PlanWord w
+abbrev pub plan_good : (w : ℕ) (s : Step) → plan_step w ≡ Some s → PlanWord w
 plan_good w s e = record { step = s; apart = e }
 
 pub kind_is : (w : ℕ) (p : PlanWord w) → kind_of w ≡ kind_number p.step
@@ -185,26 +185,26 @@ linear m w l (Rand d) t h na nd = absurd h
 -- ---- what the functions go by
 
 module _ (n w : ℕ) (lt : w < 2 ^ 32) (p : PlanWord w) where
-  pub linear_words : 1 ≤ n → n ≤ 8 → (kind_of w ≡ 3 → ⊥) → (kind_of w ≡ 8 → ⊥) → words_for n (plan_step w) ≡ w ∷ row_of (other_for (kind_of w) w) (over_for (kind_of w)) (n - 1)
+  linear_words : 1 ≤ n → n ≤ 8 → (kind_of w ≡ 3 → ⊥) → (kind_of w ≡ 8 → ⊥) → words_for n (plan_step w) ≡ w ∷ row_of (other_for (kind_of w) w) (over_for (kind_of w)) (n - 1)
   linear_words least most na nd =
       let e : suc (n - 1) ≡ n = omega arith in
       step_words n w p ∙ ap (λ (k : ℕ). map word_of (blocks scratch k (laid_out p.step))) (sym e)
       ∙ linear (n - 1) w (omega arith) p.step (together w lt p) (in_plan_is w p) (λ f. na (kind_is w p ∙ f)) (λ f. nd (kind_is w p ∙ f))
       ∙ ap (λ (k : ℕ). w ∷ row_of (other_for k w) (over_for k) (n - 1)) (sym (kind_is w p))
 
-  pub linear_length : 1 ≤ n → n ≤ 8 → (kind_of w ≡ 3 → ⊥) → (kind_of w ≡ 8 → ⊥) → length (words_for n (plan_step w)) ≡ n
+  linear_length : 1 ≤ n → n ≤ 8 → (kind_of w ≡ 3 → ⊥) → (kind_of w ≡ 8 → ⊥) → length (words_for n (plan_step w)) ≡ n
   linear_length least most na nd =
       omega (arith, ap length (linear_words least most na nd), row_length (other_for (kind_of w) w) (over_for (kind_of w)) (n - 1))
 
   -- and as a row of all, where share 0's is like the others
-  pub row_words : 1 ≤ n → n ≤ 8 → (kind_of w ≡ 3 → ⊥) → (kind_of w ≡ 8 → ⊥) → (over : ℕ) → over_for (kind_of w) ≡ over → other_for (kind_of w) w ≡ w + over
+  row_words : 1 ≤ n → n ≤ 8 → (kind_of w ≡ 3 → ⊥) → (kind_of w ≡ 8 → ⊥) → (over : ℕ) → over_for (kind_of w) ≡ over → other_for (kind_of w) w ≡ w + over
       → words_for n (plan_step w) ≡ row_of w over n
   row_words least most na nd over e f =
       let g : suc (n - 1) ≡ n = omega arith in
       linear_words least most na nd ∙ ap₂ (λ (x y : ℕ). w ∷ row_of x y (n - 1)) f e ∙ ap (λ (k : ℕ). row_of w over k) g
 
   -- a kind below 8
-  pub low : (kind_of w ≡ 8 → ⊥) → w < 2 ^ 31
+  low : (kind_of w ≡ 8 → ⊥) → w < 2 ^ 31
   low nd = by p.step (kind_is w p) (in_plan_is w p)
     where
       below : (k : ℕ) → kind_of w ≡ k → k < 8 → w < 2 ^ 31
@@ -221,6 +221,41 @@ module _ (n w : ℕ) (lt : w < 2 ^ 32) (p : PlanWord w) where
       by (Add d a b) e h = absurd (nd e)
       by (Rand d) e h = absurd h
 
+-- a word whose shares' words are all in a row, or are so behind share 0's: they fit, and there are n of them
+pub record InRow (n w over : ℕ) : Type 0 where
+  pub words : words_for n (plan_step w) ≡ row_of w over n
+  pub rises : Rises w over n
+  pub long : length (words_for n (plan_step w)) ≡ n
+
+pub record Behind (n w other over : ℕ) : Type 0 where
+  pub words : words_for n (plan_step w) ≡ w ∷ row_of other over (n - 1)
+  pub rises : Rises other over n
+  pub long : length (words_for n (plan_step w)) ≡ n
+
+-- which those of a kind k are
+module _ (n w : ℕ) (lt : w < 2 ^ 32) (least : 1 ≤ n) (most : n ≤ 8) (p : PlanWord w) (k over : ℕ) (e : kind_of w ≡ k) (na : k ≡ 3 → ⊥) (lk : k < 8) (f : over_for k ≡ over) (lo : over < 2 ^ 25) where
+  not_and : kind_of w ≡ 3 → ⊥
+  not_and x = na (sym e ∙ x)
+
+  not_add : kind_of w ≡ 8 → ⊥
+  not_add x = absurd (omega (arith, e, x, lk))
+
+  pub in_row : other_for k w ≡ w + over → InRow n w over
+  in_row g =
+      record {
+        words = row_words n w lt p least most not_and not_add over (ap over_for e ∙ f) (ap (λ (j : ℕ). other_for j w) e ∙ g);
+        rises = record { kind = low n w lt p not_add; small = lo; most = most };
+        long = linear_length n w lt p least most not_and not_add;
+      }
+
+  pub behind : (other : ℕ) → other_for k w ≡ other → other < 2 ^ 31 → Behind n w other over
+  behind other g l =
+      record {
+        words = linear_words n w lt p least most not_and not_add ∙ ap₂ (λ (x y : ℕ). w ∷ row_of x y (n - 1)) (ap (λ (j : ℕ). other_for j w) e ∙ g) (ap over_for e ∙ f);
+        rises = record { kind = l; small = lo; most = most };
+        long = linear_length n w lt p least most not_and not_add;
+      }
+
 -- CONST's number is its word's low 18 bits
 pub number_is : (w : ℕ) → w < 2 ^ 32 → (p : PlanWord w) (d k : ℕ) → p.step ≡ Const d k → w % 262144 ≡ k
 unfolding put
@@ -231,10 +266,10 @@ number_is w lt p d k e =
 
 -- AND's and ADD's words
 module _ (n d a b : ℕ) where
-  pub and_words : words_for n (Good (And d a b)) ≡ map word_of (block scratch n (And d a b))
+  pub and_words : words_for n (Some (And d a b)) ≡ map word_of (block scratch n (And d a b))
   unfolding translated
   and_words = ap (map word_of) (append-nil (block scratch n (And d a b)))
 
-  pub add_words : words_for n (Good (Add d a b)) ≡ map word_of (blocks scratch n (adding d a b))
+  pub add_words : words_for n (Some (Add d a b)) ≡ map word_of (blocks scratch n (adding d a b))
   unfolding translated
   add_words = refl

@@ -1,2 +1,2 @@
--- A name for good words of a plan (Good), cited by inner functions only: nothing here has to be believed.
+-- Names for good words of a plan and for registers (Good), cited by inner functions only: nothing here has to be believed.
 pub mod inner

@@ -1,39 +1,39 @@
 -- The head of a share program: it has kind 10, which names no step, and tells its count; and whether a word is one, by its field d.
+use Rattle.std.specs.Prelude.{Option, None}
 use mathlib.Core.Path.{◌≡◌, refl, sym, ap, ◌∙◌}
 use mathlib.Core.Bool.{Bool, true, false, ◌&&◌}
 use Prim.Native.Nat.{ℕ, ◌≤◌, ◌<◌}
 use native.Mathlib.Omega.{arith}
 use lib.Dec.{leb, eqb}
 use borrow.Author.Tests.{le-leb, lt-leb, eq-eqb, eqb-true}
-use Rattle.word.specs.declared.step.Decoded.{Decoded}
-use Rattle.word.specs.declared.step.Decoded.TheVariants.{Bad}
+use Rattle.word.specs.declared.step.Step.{Step}
 use Rattle.word.specs.Encoding.{kind_of, bit27, field_d, field_a, field_b, either, row, named, put, held, in_plan, in_program, plan_step, program_step}
 use Rattle.word.specs.Head.{head_word, is_head}
 use Rattle.word.proofs.Small.{share_range}
 
-row_10 : (d a b : ℕ) → row 10 d a b ≡ Bad
+row_10 : (d a b : ℕ) → row 10 d a b ≡ None
 unfolding row
 row_10 d a b = refl
 
-either_bad : (b : Bool) → either b Bad Bad ≡ Bad
+either_bad : (b : Bool) → either b None None ≡ None
 either_bad true = refl
 either_bad false = refl
 
-named_10 : (w : ℕ) → kind_of w ≡ 10 → named w ≡ Bad
+named_10 : (w : ℕ) → kind_of w ≡ 10 → named w ≡ None
 unfolding named
 named_10 w e =
-    ap (λ (k : ℕ). either (eqb (bit27 w) 0) (row k (field_d w) (field_a w) (field_b w)) Bad) e
-    ∙ ap (λ (r : Decoded). either (eqb (bit27 w) 0) r Bad) (row_10 (field_d w) (field_a w) (field_b w)) ∙ either_bad (eqb (bit27 w) 0)
+    ap (λ (k : ℕ). either (eqb (bit27 w) 0) (row k (field_d w) (field_a w) (field_b w)) None) e
+    ∙ ap (λ (r : Option Step). either (eqb (bit27 w) 0) r None) (row_10 (field_d w) (field_a w) (field_b w)) ∙ either_bad (eqb (bit27 w) 0)
 
 pub head_kind : (n : ℕ) → n ≤ 8 → kind_of (head_word n) ≡ 10
 unfolding put
 head_kind n h = omega arith
 
 -- no step
-pub kind_10_bad : (w : ℕ) → kind_of w ≡ 10 → (program_step w ≡ Bad) × (plan_step w ≡ Bad)
+pub kind_10_bad : (w : ℕ) → kind_of w ≡ 10 → (program_step w ≡ None) × (plan_step w ≡ None)
 kind_10_bad w e = (ap (held in_program) (named_10 w e), ap (held in_plan) (named_10 w e))
 
-pub head_bad : (n : ℕ) → n ≤ 8 → program_step (head_word n) ≡ Bad
+pub head_bad : (n : ℕ) → n ≤ 8 → program_step (head_word n) ≡ None
 head_bad n h = (kind_10_bad (head_word n) (head_kind n h)).0
 
 -- its other fields

@@ -1,9 +1,7 @@
 -- Step words, from document 01's section "Step words": the fields of a 32-bit word, the step that they name, and which words are bad.
-use Rattle.std.specs.Prelude.{Bool, true, false, not, ◌&&◌, ℕ, ◌+◌, ◌*◌, ◌/◌, ◌%◌, ◌^◌, ltb, eqb}
+use Rattle.std.specs.Prelude.{Bool, true, false, not, ◌&&◌, ℕ, ◌+◌, ◌*◌, ◌/◌, ◌%◌, ◌^◌, ltb, eqb, Option, Some, None}
 use Rattle.word.specs.declared.step.Step.{Step}
 use Rattle.word.specs.declared.step.Step.TheVariants.{Const, Xor, And, Not, Shl, Shr, Spread, Add, Rand}
-use Rattle.word.specs.declared.step.Decoded.{Decoded}
-use Rattle.word.specs.declared.step.Decoded.TheVariants.{Good, Bad}
 use Rattle.word.specs.Table.{naming}
 
 -- "bits 31..28 kind, bit 27 zero, bits 26..18 d, 17..9 a, 8..0 b"
@@ -22,24 +20,24 @@ field_a w = w / 2 ^ 9 % 512
 abbrev pub field_b : ℕ → ℕ
 field_b w = w % 512
 
-abbrev pub either : Bool → Decoded → Decoded → Decoded
+abbrev pub either : Bool → Option Step → Option Step → Option Step
 either true s r = s
 either false s r = r
 
 -- the table's rows: the step that kind k with fields d, a and b names ("k = 512·a + b, a number here"; "b = 0"; "a = b = 0"). Whether
 -- its cells and its shift number are in range is `within`'s to say.
-unfoldable pub row : ℕ → ℕ → ℕ → ℕ → Decoded
+unfoldable pub row : ℕ → ℕ → ℕ → ℕ → Option Step
 row k d a b =
-    either (eqb k 1) (Good (Const d (512 * a + b)))
-    (either (eqb k 2) (Good (Xor d a b))
-    (either (eqb k 3) (Good (And d a b))
-    (either (eqb k 4) (either (eqb b 0) (Good (Not d a)) Bad)
-    (either (eqb k 5) (Good (Shl d a b))
-    (either (eqb k 6) (Good (Shr d a b))
-    (either (eqb k 7) (either (eqb b 0) (Good (Spread d a)) Bad)
-    (either (eqb k 8) (Good (Add d a b))
-    (either (eqb k 9) (either (eqb a 0) (either (eqb b 0) (Good (Rand d)) Bad) Bad)
-    Bad))))))))
+    either (eqb k 1) (Some (Const d (512 * a + b)))
+    (either (eqb k 2) (Some (Xor d a b))
+    (either (eqb k 3) (Some (And d a b))
+    (either (eqb k 4) (either (eqb b 0) (Some (Not d a)) None)
+    (either (eqb k 5) (Some (Shl d a b))
+    (either (eqb k 6) (Some (Shr d a b))
+    (either (eqb k 7) (either (eqb b 0) (Some (Spread d a)) None)
+    (either (eqb k 8) (Some (Add d a b))
+    (either (eqb k 9) (either (eqb a 0) (either (eqb b 0) (Some (Rand d)) None) None)
+    None))))))))
 
 -- a step's shift is "a number 0..63", its constant has 18 bits
 abbrev pub number_fits : Step → Bool
@@ -78,28 +76,28 @@ abbrev pub in_program : Step → Bool
 in_program s = not (eqb (kind_number s) 8) && within 512 s
 
 -- "A word outside these rules is bad. Taking a word apart gives either its kind with its fields or the finding that it is bad"
-abbrev pub held : (Step → Bool) → Decoded → Decoded
-held rule (Good s) = either (rule s) (Good s) Bad
-held rule Bad = Bad
+abbrev pub held : (Step → Bool) → Option Step → Option Step
+held rule (Some s) = either (rule s) (Some s) None
+held rule None = None
 
 -- the step that a word names, by its fields; "bit 27 zero"
-unfoldable pub named : ℕ → Decoded
-named w = either (eqb (bit27 w) 0) (row (kind_of w) (field_d w) (field_a w) (field_b w)) Bad
+unfoldable pub named : ℕ → Option Step
+named w = either (eqb (bit27 w) 0) (row (kind_of w) (field_d w) (field_a w) (field_b w)) None
 
 -- a word taken apart by a rule, by that of plans, and by that of a share program's words behind its head
-abbrev pub taken : (Step → Bool) → ℕ → Decoded
+abbrev pub taken : (Step → Bool) → ℕ → Option Step
 taken rule w = held rule (named w)
 
-abbrev pub plan_step : ℕ → Decoded
+abbrev pub plan_step : ℕ → Option Step
 plan_step w = taken in_plan w
 
-abbrev pub program_step : ℕ → Decoded
+abbrev pub program_step : ℕ → Option Step
 program_step w = taken in_program w
 
 -- whether a word taken apart was good
-abbrev pub is_good : Decoded → Bool
-is_good (Good s) = true
-is_good Bad = false
+abbrev pub is_good : Option Step → Bool
+is_good (Some s) = true
+is_good None = false
 
 -- putting together: the kind keeps four bits and a field nine
 unfoldable pub put : ℕ → ℕ → ℕ → ℕ → ℕ

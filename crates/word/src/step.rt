@@ -1,6 +1,6 @@
-// Decoded steps: the kind of a step word with its fields. Cells have nine bits, a constant eighteen. A cell is a `usize`, as it indexes; in
-// narrower types the compiler packs a step into one machine word and takes it apart again.
-#[derive(Clone, Copy)]
+// Steps: the kind of a step word with its fields. Cells have nine bits, a constant eighteen. A cell is a `usize`, as it indexes; in narrower types the
+// compiler packs a step into one machine word and takes it apart again. A word taken apart is an `Option<Step>`: `None` is the finding that it is bad.
+#[derive(Clone, Copy, PartialEq, Eq)]
 pub enum Step {
     Const { d: usize, k: u32 },
     Xor { d: usize, a: usize, b: usize },
@@ -11,11 +11,4 @@ pub enum Step {
     Spread { d: usize, a: usize },
     Add { d: usize, a: usize, b: usize },
     Rand { d: usize },
-}
-
-// What taking a word apart gives: its step, or the finding that the word is bad.
-#[derive(Clone, Copy)]
-pub enum Decoded {
-    Good(Step),
-    Bad,
 }

@@ -6,11 +6,19 @@ ghost use Rattle.word.specs.Head.{head_word};
 ghost use Rattle.word.specs.Layout as layout;
 
 use crate::parts::{put, row};
-use crate::step::Decoded;
+use crate::step::Step;
 
-#[derive(Clone, Copy)]
+#[derive(Clone, Copy, PartialEq, Eq)]
 pub struct StepWord {
     pub bits: u32,
+}
+
+impl From<u32> for StepWord {
+    ghost from_gives = { λ bits w. w.bits ≡ bits };
+
+    fn from(bits: u32) -> StepWord {
+        StepWord { bits }
+    }
 }
 
 impl StepWord {
@@ -33,7 +41,7 @@ impl StepWord {
 
     pub const SHIFTS: u32 = 64;
 
-    // The kinds.
+    // The kinds: the numbers of `Step`'s variants in a word. Functions of a kind answer for every number of four bits, as fields hold any.
     pub const CONST: u32 = 1;
 
     pub const XOR: u32 = 2;
@@ -93,12 +101,6 @@ impl StepWord {
     // The helper registers of ADD begin here.
     pub const HELPERS: u16 = 288;
 
-    pub fn of(bits: u32) -> StepWord
-        ensures { result.bits ≡ bits }
-    {
-        StepWord { bits }
-    }
-
     pub fn kind(self) -> u32
         ensures { result ≡ kind_of self.bits }
     {
@@ -129,14 +131,15 @@ impl StepWord {
         (self.bits % StepWord::FIELD) as usize
     }
 
-    // The step that the fields name, before its ranges are looked at, or Bad where bit 27 or a field that must be 0 is set.
-    pub fn named(self) -> Decoded
+    // The step that the fields name, before its ranges are looked at, or None where bit 27 or a field that must be 0 is set.
+    #[tactic(auto, unfolding(crate::specs::Encoding::named))]
+    pub fn named(self) -> Option<Step>
         ensures { result ≡ spec.named self.bits }
     {
         if self.zero_bit() == 0 {
             row(self.kind(), self.d(), self.a(), self.b())
         } else {
-            Decoded::Bad
+            None
         }
     }
 
@@ -155,6 +158,7 @@ impl StepWord {
     }
 
     // Share words that a plan word of this kind translates to for n shares.
+    #[tactic(auto, using(crate::proofs::Small::square_lt), unfolding(crate::specs::Layout::length_of))]
     pub fn length(kind: u32, n: u8) -> usize
         ensures { result ≡ layout.length_of kind n }
     {
@@ -167,6 +171,7 @@ impl StepWord {
     }
 
     // Tape words that a plan word of this kind uses for n shares.
+    #[tactic(auto, using(crate::proofs::Small::pairs_lt), unfolding(crate::specs::Layout::tape_of))]
     pub fn tape(kind: u32, n: u8) -> usize
         ensures { result ≡ layout.tape_of kind n }
     {

@@ -1,31 +1,24 @@
 // The two rules that say which steps a plan and a share program have.
-ghost use Rattle.std.specs.Prelude.{◌≡◌, ◌&&◌, ◌<◌, ltb};
+ghost use Rattle.std.specs.Prelude.{◌≡◌, ◌<◌};
 ghost use Rattle.word.specs.Encoding as spec;
 ghost use Rattle.word.specs.Table.{dest};
 
 use word::step::Step;
 use word::step_word::StepWord;
 
-// Whether a cell is below the limit and the rest holds too.
-fn below(x: usize, limit: usize, rest: bool) -> bool
-    ensures { result ≡ (ltb x limit && rest) }
-{
-    if x < limit { rest } else { false }
-}
-
 // Whether all cells are below `cells`, the shift below 64 and the constant of 18 bits.
 pub fn within(cells: usize, s: Step) -> bool
     ensures { result ≡ spec.within cells s }
 {
     match s {
-        Step::Const { d, k } => below(d, cells, k < StepWord::NUMBERS),
-        Step::Xor { d, a, b } => below(d, cells, below(a, cells, b < cells)),
-        Step::And { d, a, b } => below(d, cells, below(a, cells, b < cells)),
-        Step::Not { d, a } => below(d, cells, a < cells),
-        Step::Shl { d, a, b } => below(d, cells, below(a, cells, b < StepWord::SHIFTS)),
-        Step::Shr { d, a, b } => below(d, cells, below(a, cells, b < StepWord::SHIFTS)),
-        Step::Spread { d, a } => below(d, cells, a < cells),
-        Step::Add { d, a, b } => below(d, cells, below(a, cells, b < cells)),
+        Step::Const { d, k } => d < cells && k < StepWord::NUMBERS,
+        Step::Xor { d, a, b } | Step::And { d, a, b } | Step::Add { d, a, b } => d < cells
+            && a < cells
+            && b < cells,
+        Step::Not { d, a } | Step::Spread { d, a } => d < cells && a < cells,
+        Step::Shl { d, a, b } | Step::Shr { d, a, b } => d < cells
+            && a < cells
+            && b < StepWord::SHIFTS,
         Step::Rand { d } => d < cells,
     }
 }
@@ -35,15 +28,15 @@ pub fn kind_number(s: Step) -> u32
     ensures { result ≡ spec.kind_number s }
 {
     match s {
-        Step::Const { d: _, k: _ } => StepWord::CONST,
-        Step::Xor { d: _, a: _, b: _ } => StepWord::XOR,
-        Step::And { d: _, a: _, b: _ } => StepWord::AND,
-        Step::Not { d: _, a: _ } => StepWord::NOT,
-        Step::Shl { d: _, a: _, b: _ } => StepWord::SHL,
-        Step::Shr { d: _, a: _, b: _ } => StepWord::SHR,
-        Step::Spread { d: _, a: _ } => StepWord::SPREAD,
-        Step::Add { d: _, a: _, b: _ } => StepWord::ADD,
-        Step::Rand { d: _ } => StepWord::RAND,
+        Step::Const { .. } => StepWord::CONST,
+        Step::Xor { .. } => StepWord::XOR,
+        Step::And { .. } => StepWord::AND,
+        Step::Not { .. } => StepWord::NOT,
+        Step::Shl { .. } => StepWord::SHL,
+        Step::Shr { .. } => StepWord::SHR,
+        Step::Spread { .. } => StepWord::SPREAD,
+        Step::Add { .. } => StepWord::ADD,
+        Step::Rand { .. } => StepWord::RAND,
     }
 }
 
@@ -53,15 +46,14 @@ pub fn in_plan(s: Step) -> bool
     ensures { result ≡ spec.in_plan s }
 {
     match s {
-        Step::Const { d: _, k } => k < StepWord::NUMBERS,
-        Step::Xor { d: _, a, b } => below(a, StepWord::REGISTERS, b < StepWord::REGISTERS),
-        Step::And { d: _, a, b } => below(a, StepWord::REGISTERS, b < StepWord::REGISTERS),
-        Step::Not { d: _, a } => a < StepWord::REGISTERS,
-        Step::Shl { d: _, a, b } => below(a, StepWord::REGISTERS, b < StepWord::SHIFTS),
-        Step::Shr { d: _, a, b } => below(a, StepWord::REGISTERS, b < StepWord::SHIFTS),
-        Step::Spread { d: _, a } => a < StepWord::REGISTERS,
-        Step::Add { d: _, a, b } => below(a, StepWord::REGISTERS, b < StepWord::REGISTERS),
-        Step::Rand { d: _ } => false,
+        Step::Const { k, .. } => k < StepWord::NUMBERS,
+        Step::Xor { a, b, .. } | Step::And { a, b, .. } | Step::Add { a, b, .. } => a
+            < StepWord::REGISTERS
+            && b < StepWord::REGISTERS,
+        Step::Not { a, .. } | Step::Spread { a, .. } => a < StepWord::REGISTERS,
+        Step::Shl { a, b, .. } | Step::Shr { a, b, .. } => a < StepWord::REGISTERS
+            && b < StepWord::SHIFTS,
+        Step::Rand { .. } => false,
     }
 }
 
@@ -69,9 +61,5 @@ pub fn in_plan(s: Step) -> bool
 pub fn in_program(s: Step) -> bool
     ensures { result ≡ spec.in_program s }
 {
-    if kind_number(s) == StepWord::ADD {
-        false
-    } else {
-        within(StepWord::CELLS, s)
-    }
+    kind_number(s) != StepWord::ADD && within(StepWord::CELLS, s)
 }

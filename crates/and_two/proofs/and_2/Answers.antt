@@ -1,27 +1,24 @@
 -- `and_two::and_2` meets its contract: what it stores is what and_many's OnTwo says of.
 use mathlib.Core.Path.{◌≡◌}
-use Prim.Native.Nat.{◌+◌, ◌≤◌}
+use Prim.Native.Nat.{◌+◌}
 use native.Mathlib.Omega.{arith}
-use lib.ListN.{length, length-set}
+use lib.ListN.{length-set}
 use Rattle.bits.specs.Ops.{xor_w, and_w}
 use Rattle.and_parts.specs.inner.Effects.{at, placed}
 use Rattle.and_parts.proofs.Turn.{at_first}
-use Rattle.and_many.proofs.Parts.{two_words, ran_size}
+use Rattle.and_many.proofs.InHalves.{two_left}
+use Rattle.and_many.proofs.Parts.{ran_size}
 use Rattle.and_many.proofs.OnTwo.{two_done}
 use Rattle.and_two.proofs.and_2.Goals as goal
 
 pub bounds-tape-t : goal.bounds-tape-t
-bounds-tape-t c =
-    let two_left : c.args.t + 2 ≤ length c.args.tape.now = two_words (at c.args.d) (at (placed c.args.a c.args.over)) (at (placed c.args.b c.args.over)) c.args.tape.now c.args.t c.requires.words in
-    omega (arith, two_left)
+bounds-tape-t c = omega (arith, two_left c.requires)
 
 pub bounds-cells-b : goal.bounds-cells-b
 bounds-cells-b c = simp length-set (omega (arith, c.requires.right.inside))
 
 pub bounds-tape-t-2 : goal.bounds-tape-t-2
-bounds-tape-t-2 c =
-    let two_left : c.args.t + 2 ≤ length c.args.tape.now = two_words (at c.args.d) (at (placed c.args.a c.args.over)) (at (placed c.args.b c.args.over)) c.args.tape.now c.args.t c.requires.words in
-    omega (arith, two_left)
+bounds-tape-t-2 c = omega (arith, two_left c.requires)
 
 pub bounds-cells-b-2 : goal.bounds-cells-b-2
 bounds-cells-b-2 c = simp length-set (omega (arith, c.requires.right.inside))
@@ -33,30 +30,22 @@ pub bounds-cells-a-2 : goal.bounds-cells-a-2
 bounds-cells-a-2 c = simp length-set (omega (arith, c.requires.left.inside))
 
 pub bounds-tape-t-3 : goal.bounds-tape-t-3
-bounds-tape-t-3 c =
-    let two_left : c.args.t + 2 ≤ length c.args.tape.now = two_words (at c.args.d) (at (placed c.args.a c.args.over)) (at (placed c.args.b c.args.over)) c.args.tape.now c.args.t c.requires.words in
-    omega (arith, two_left)
+bounds-tape-t-3 c = omega (arith, two_left c.requires)
 
 pub bounds-tape-t-4 : goal.bounds-tape-t-4
-bounds-tape-t-4 c =
-    let two_left : c.args.t + 2 ≤ length c.args.tape.now = two_words (at c.args.d) (at (placed c.args.a c.args.over)) (at (placed c.args.b c.args.over)) c.args.tape.now c.args.t c.requires.words in
-    omega (arith, two_left)
+bounds-tape-t-4 c = omega (arith, two_left c.requires)
 
 pub bounds-cells-q : goal.bounds-cells-q
 bounds-cells-q c = simp length-set (omega (arith, c.requires.to.inside))
 
 pub bounds-tape-t-5 : goal.bounds-tape-t-5
-bounds-tape-t-5 c =
-    let two_left : c.args.t + 2 ≤ length c.args.tape.now = two_words (at c.args.d) (at (placed c.args.a c.args.over)) (at (placed c.args.b c.args.over)) c.args.tape.now c.args.t c.requires.words in
-    omega (arith, two_left)
+bounds-tape-t-5 c = omega (arith, two_left c.requires)
 
 pub bounds-cells-272-3 : goal.bounds-cells-272-3
 bounds-cells-272-3 c = simp length-set (omega (arith, c.requires.size))
 
 pub bounds-tape-t-6 : goal.bounds-tape-t-6
-bounds-tape-t-6 c =
-    let two_left : c.args.t + 2 ≤ length c.args.tape.now = two_words (at c.args.d) (at (placed c.args.a c.args.over)) (at (placed c.args.b c.args.over)) c.args.tape.now c.args.t c.requires.words in
-    omega (arith, two_left)
+bounds-tape-t-6 c = omega (arith, two_left c.requires)
 
 pub bounds-cells-p : goal.bounds-cells-p
 bounds-cells-p c = simp length-set (omega (arith, c.requires.to.inside))

@@ -15,12 +15,6 @@ pub adder_step-at-requires : goal.adder_step-at-requires
 adder_step-at-requires c =
     let l = renamed _ _ _ (adder_next c.args.d.first c.args.a.first c.args.b.first c.args.n c.loop-k.k (omega arith)) c.loop-k.invariant.1 in record { register = c.requires.register; k_bound = omega arith; n_bound = c.requires.n_bound; room = room (block scratch c.args.n (adder_step c.args.d.first c.args.a.first c.args.b.first c.loop-k.k)) _ l c.requires.room }
 
-pub overflow_step-k : goal.overflow_step-k
-overflow_step-k c = omega arith
-
-pub loop-k-smaller : goal.loop-k-smaller
-loop-k-smaller c = omega arith
-
 pub loop-k-preserved : goal.loop-k-preserved
 loop-k-preserved c =
     let l = renamed _ _ _ (adder_next c.args.d.first c.args.a.first c.args.b.first c.args.n c.loop-k.k (omega arith)) c.loop-k.invariant.1 in

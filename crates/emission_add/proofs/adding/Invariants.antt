@@ -1,4 +1,4 @@
--- The invariants and measures of the loops of `adding`.
+-- The invariant of the loop of `adding`.
 use mathlib.Core.Path.{◌≡◌}
 use Prim.Native.Nat.{◌-◌, ◌≤◌}
 use lib.ListN.{drop}
@@ -8,6 +8,3 @@ use Rattle.emission_add.proofs.adding.Given as goal
 
 abbrev pub invariant-loop-k : goal.invariant-loop-k
 invariant-loop-k l = (l.k ≤ 33) × Left l.initial.out l.initial.at (blocks scratch l.n (adding l.d.first l.a.first l.b.first)) l.out l.at (blocks scratch l.n (drop l.k (adding l.d.first l.a.first l.b.first))) × (l.initial.at ≡ l.at-2)
-
-abbrev pub decreases-loop-k : goal.decreases-loop-k
-decreases-loop-k l = 33 - l.k

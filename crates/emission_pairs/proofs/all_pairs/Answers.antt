@@ -25,12 +25,6 @@ pairs_of-at-requires c =
     let h : i < n = omega arith in
     let l = renamed _ _ _ (ap (λ (is : List ℕ). pair_steps p (pairs is)) (rising i n (omega arith)) ∙ pair_append p _ _) c.loop-i.invariant.1 in record { pair_fits = c.requires.pair_fits; i_lt_n = h; n_bound = c.requires.n_bound; room = room row ts l c.requires.room }
 
-pub overflow_step-i : goal.overflow_step-i
-overflow_step-i c = omega arith
-
-pub loop-i-smaller : goal.loop-i-smaller
-loop-i-smaller c = omega arith
-
 pub loop-i-preserved : goal.loop-i-preserved
 loop-i-preserved c =
     let n = c.args.n in

@@ -10,9 +10,6 @@ use Rattle.masking.proofs.emitted.Rising.{rising, risen}
 use Rattle.emission_pairs.proofs.ByPair.{pair_first, pair_none}
 use Rattle.emission_pairs.proofs.pairs_of.Goals as goal
 
-pub overflow_step-j : goal.overflow_step-j
-overflow_step-j c = omega arith
-
 pub loop-j-init : goal.loop-j-init
 loop-j-init c = (omega arith, start _ _ _)
 
@@ -24,12 +21,6 @@ one_pair-at-requires c =
     let j = c.loop-j.j in
     let ts = pair_steps p (pairs_of i (up_from (j + 1) (n - (j + 1)))) in
     let l = renamed _ _ _ (ap (λ (js : List ℕ). pair_steps p (pairs_of i js)) (rising j n (omega arith)) ∙ pair_first p _ _) c.loop-j.invariant.1 in record { pair_fits = c.requires.pair_fits; i_bound = omega arith; j_bound = omega arith; room = room (pair_steps p (record { lo = i; hi = j } ∷ [])) ts l c.requires.room }
-
-pub overflow_step-j-in-loop-j : goal.overflow_step-j-in-loop-j
-overflow_step-j-in-loop-j c = omega arith
-
-pub loop-j-smaller : goal.loop-j-smaller
-loop-j-smaller c = omega arith
 
 pub loop-j-preserved : goal.loop-j-preserved
 loop-j-preserved c =

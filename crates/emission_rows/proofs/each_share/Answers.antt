@@ -1,13 +1,6 @@
 -- `emission_rows::each_share` meets its contract.
-use borrow.Author.Rules.{rules}
 use Rattle.emission_rows.proofs.Rows.{word_row, each_rises}
 use Rattle.emission_rows.proofs.each_share.Goals as goal
-
-pub put-first-requires : goal.put-first-requires
-put-first-requires c = search rules
-
-pub put-over-requires : goal.put-over-requires
-put-over-requires c = search rules
 
 pub row-requires : goal.row-requires
 row-requires c =

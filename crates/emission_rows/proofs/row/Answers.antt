@@ -28,12 +28,6 @@ overflow_add-w-in-loop-i-2 c =
     let h : c.loop-i.i < c.args.n / 2 = omega (arith, c.loop-i.invariant.1, c.loop-i-test.true) in
     omega (arith, c.loop-i.invariant.2.low, c.requires.rises)
 
-pub overflow_step-i : goal.overflow_step-i
-overflow_step-i c = omega arith
-
-pub loop-i-smaller : goal.loop-i-smaller
-loop-i-smaller c = omega arith
-
 pub loop-i-preserved : goal.loop-i-preserved
 loop-i-preserved c =
     let p = c.requires.rises in

@@ -6,7 +6,7 @@ use Rattle.fft_all_pairs.proofs.layer_done.Goals as goal
 
 pub all_pairs-requires : goal.all_pairs-requires
 all_pairs-requires c =
-    (c.requires.0, c.requires.1, c.requires.2, c.requires.3, c.requires.4, c.clear.ensures ∙ ap (λ (k : ℕ). replicate k 0) c.requires.5, c.requires.6)
+    (c.requires.0, c.requires.1, c.requires.2, c.requires.3, c.clear.ensures ∙ ap (λ (k : ℕ). replicate k 0) c.requires.4, c.requires.5)
 
 pub returns : goal.returns
 returns c =

@@ -31,17 +31,8 @@ offset_bounds-to-stride c = omega (arith, c.requires.1 c.loop-i.i (omega arith),
 pub bounds-to-stride : goal.bounds-to-stride
 bounds-to-stride c = omega (arith, c.requires.1 c.loop-i.i (omega arith), c.loop-i.invariant.size)
 
-pub overflow_add-i : goal.overflow_add-i
-overflow_add-i c = omega arith
-
-pub loop-i-smaller : goal.loop-i-smaller
-loop-i-smaller c = omega arith
-
 pub loop-i-preserved : goal.loop-i-preserved
 loop-i-preserved c = one_copied _ _ _ _ _ _ _ c.loop-i.i _ c.loop-i.invariant (omega arith) refl
 
-pub shape_of-to : goal.shape_of-to
-shape_of-to c = c.loop-i.invariant.size
-
 pub returns : goal.returns
-returns c = all_copied _ _ _ _ _ _ _ c.loop-i.i c.loop-i.invariant c.loop-i-test.false
+returns c = all_copied _ _ _ _ _ _ _ c.loop-i.i c.loop-i.invariant (omega arith)

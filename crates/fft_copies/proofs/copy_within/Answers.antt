@@ -33,12 +33,6 @@ offset_bounds-cells-stride c = omega (arith, c.requires.1 c.loop-i.i (omega arit
 pub bounds-cells-stride : goal.bounds-cells-stride
 bounds-cells-stride c = omega (arith, c.requires.1 c.loop-i.i (omega arith), c.loop-i.invariant.0.size)
 
-pub overflow_add-i : goal.overflow_add-i
-overflow_add-i c = omega arith
-
-pub loop-i-smaller : goal.loop-i-smaller
-loop-i-smaller c = omega arith
-
 pub loop-i-preserved : goal.loop-i-preserved
 loop-i-preserved c =
     let v = get_or c.loop-i.cells (c.args.step * c.loop-i.i + c.args.at) 0 in (
@@ -46,8 +40,5 @@ loop-i-preserved c =
       still_unread c.args.n c.args.step c.args.at c.args.stride c.args.place c.loop-i.i v c.args.cells.now c.loop-i.cells c.requires.2 (omega arith) c.loop-i.invariant.1,
     )
 
-pub shape_of-cells : goal.shape_of-cells
-shape_of-cells c = c.loop-i.invariant.0.size
-
 pub returns : goal.returns
-returns c = all_copied _ _ _ _ _ _ _ c.loop-i.i c.loop-i.invariant.0 c.loop-i-test.false
+returns c = all_copied _ _ _ _ _ _ _ c.loop-i.i c.loop-i.invariant.0 (omega arith)

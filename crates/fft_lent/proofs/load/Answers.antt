@@ -7,4 +7,4 @@ use Rattle.fft_lent.proofs.load.Goals as goal
 
 pub returns : goal.returns
 returns c =
-    parts_in c.args.n c.requires.1 c.args.x.now c.args.y.now (c.clear.ensures ∙ ap (λ (k : ℕ). replicate k 0) c.requires.4) c.copy.ensures c.copy-2.ensures c.copy-3.ensures c.copy-4.ensures
+    parts_in c.args.n c.requires.1 c.args.x.now c.args.y.now (c.clear.ensures ∙ ap (λ (k : ℕ). replicate k 0) c.requires.4) c.load.ensures c.load-2.ensures c.load-3.ensures c.load-4.ensures

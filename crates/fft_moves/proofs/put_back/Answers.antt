@@ -3,44 +3,54 @@ use mathlib.Core.Path.{◌∙◌}
 use mathlib.Core.List.{[], ◌∷◌}
 use Prim.Native.Nat.{◌+◌, ◌*◌}
 use native.Mathlib.Omega.{arith}
-use borrow.Author.Rules.{rules}
 use Rattle.fft_numbers.specs.Acts.{Store}
 use Rattle.fft_numbers.specs.Layer.{slot_plus_re, slot_plus_im, slot_minus_re, slot_minus_im}
-use Rattle.fft_numbers.proofs.Powers.{numbers_most}
-use Rattle.fft_slots.proofs.Holding.{row_inside}
 use Rattle.fft_slots.proofs.OneByOne.{done_then, stored}
+use Rattle.fft_moves.proofs.Lying.{lies}
 use Rattle.fft_moves.proofs.put_back.Goals as goal
 
-pub copy-requires : goal.copy-requires
-copy-requires c =
-    (search rules, λ i l. rw c.requires.4 (row_inside c.args.n (2 * c.args.count) c.args.p (omega (arith, c.requires.3)) c.args.numbers.now i l), search rules, omega (arith, c.requires.4, numbers_most c.args.count c.args.n c.requires.2 c.requires.1))
+pub store-requires : goal.store-requires
+store-requires c =
+    let p = c.args.pair in
+    let size = c.requires.2 in
+    let h = lies c.args.n p.layer.count p.place _ c.requires.1 p.layer.most size (omega arith) in
+    (c.requires.1, h.0, h.1, c.requires.3)
 
-pub copy-requires-2 : goal.copy-requires-2
-copy-requires-2 c =
-    let size = c.copy.auto.to ∙ c.requires.4 in
-    (search rules, λ i l. rw size (row_inside c.args.n (2 * c.args.count) (c.args.count + c.args.p) (omega (arith, c.requires.3)) c.args.numbers.now i l), search rules, omega (arith, size, numbers_most c.args.count c.args.n c.requires.2 c.requires.1))
+pub store-requires-2 : goal.store-requires-2
+store-requires-2 c =
+    let p = c.args.pair in
+    let size = c.store.auto.to ∙ c.requires.2 in
+    let h = lies c.args.n p.layer.count (p.layer.count + p.place) _ c.requires.1 p.layer.most size (omega arith) in
+    (c.requires.1, h.0, h.1, c.requires.3)
 
-pub copy-requires-3 : goal.copy-requires-3
-copy-requires-3 c =
-    let size = c.copy-2.auto.to ∙ (c.copy.auto.to ∙ c.requires.4) in
-    (search rules, λ i l. rw size (row_inside c.args.n (2 * c.args.count) (c.args.p + c.args.distance) (omega (arith, c.requires.3)) c.args.numbers.now i l), search rules, omega (arith, size, numbers_most c.args.count c.args.n c.requires.2 c.requires.1))
+pub store-requires-3 : goal.store-requires-3
+store-requires-3 c =
+    let p = c.args.pair in
+    let size = c.store-2.auto.to ∙ (c.store.auto.to ∙ c.requires.2) in
+    let h = lies c.args.n p.layer.count (p.place + p.layer.distance) _ c.requires.1 p.layer.most size (omega arith) in
+    (c.requires.1, h.0, h.1, c.requires.3)
 
-pub copy-requires-4 : goal.copy-requires-4
-copy-requires-4 c =
-    let size = c.copy-3.auto.to ∙ (c.copy-2.auto.to ∙ (c.copy.auto.to ∙ c.requires.4)) in
-    (search rules, λ i l. rw size (row_inside c.args.n (2 * c.args.count) (c.args.count + (c.args.p + c.args.distance)) (omega (arith, c.requires.3)) c.args.numbers.now i l), search rules, omega (arith, size, numbers_most c.args.count c.args.n c.requires.2 c.requires.1))
+pub store-requires-4 : goal.store-requires-4
+store-requires-4 c =
+    let p = c.args.pair in
+    let size = c.store-3.auto.to ∙ (c.store-2.auto.to ∙ (c.store.auto.to ∙ c.requires.2)) in
+    let h = lies c.args.n p.layer.count (p.layer.count + (p.place + p.layer.distance)) _ c.requires.1 p.layer.most size (omega arith) in
+    (c.requires.1, h.0, h.1, c.requires.3)
 
 pub returns : goal.returns
 returns c =
-    let S = 2 * c.args.count in
-    let pc = c.args.p + c.args.distance in
-    let a = Store c.args.p slot_plus_re in
-    let b = Store (c.args.count + c.args.p) slot_plus_im in
-    let d = Store pc slot_minus_re in
-    done_then c.args.n 0 0 [] (a ∷ b ∷ d ∷ []) (Store (c.args.count + pc) slot_minus_im ∷ []) (omega arith)
-    (done_then c.args.n 0 0 [] (a ∷ b ∷ []) (d ∷ []) (omega arith)
-    (done_then c.args.n 0 0 [] (a ∷ []) (b ∷ []) (omega arith)
-    (stored c.args.n S c.args.p slot_plus_re c.requires.1 (omega arith) (omega (arith, c.requires.3)) c.copy.ensures)
-    (stored c.args.n S (c.args.count + c.args.p) slot_plus_im c.requires.1 (omega arith) (omega (arith, c.requires.3)) c.copy-2.ensures))
-    (stored c.args.n S pc slot_minus_re c.requires.1 (omega arith) (omega (arith, c.requires.3)) c.copy-3.ensures))
-    (stored c.args.n S (c.args.count + pc) slot_minus_im c.requires.1 (omega arith) (omega (arith, c.requires.3)) c.copy-4.ensures)
+    let p = c.args.pair in
+    let n = c.args.n in
+    let N = p.layer.count in
+    let few = c.requires.1 in
+    let v = p.place + p.layer.distance in
+    let a = Store p.place slot_plus_re in
+    let b = Store (N + p.place) slot_plus_im in
+    let d = Store v slot_minus_re in
+    done_then n 0 0 [] (a ∷ b ∷ d ∷ []) (Store (N + v) slot_minus_im ∷ []) (omega arith)
+    (done_then n 0 0 [] (a ∷ b ∷ []) (d ∷ []) (omega arith)
+    (done_then n 0 0 [] (a ∷ []) (b ∷ []) (omega arith)
+    (stored n (2 * N) p.place slot_plus_re few (omega arith) (omega arith) c.store.ensures)
+    (stored n (2 * N) (N + p.place) slot_plus_im few (omega arith) (omega arith) c.store-2.ensures))
+    (stored n (2 * N) v slot_minus_re few (omega arith) (omega arith) c.store-3.ensures))
+    (stored n (2 * N) (N + v) slot_minus_im few (omega arith) (omega arith) c.store-4.ensures)

@@ -11,10 +11,11 @@ use Rattle.fft_moves.proofs.take.Goals as goal
 
 pub returns : goal.returns
 returns c =
-    let S = 2 * c.args.count in
-    let a = Put slot_a c.args.re in
-    let b = Put slot_b c.args.im in
-    done_then c.args.n 0 0 [] (a ∷ b ∷ []) (numbers_loaded c.args.count c.args.distance c.args.p) (omega arith)
+    let p = c.args.pair in
+    let S = 2 * p.layer.count in
+    let a = Put slot_a p.re in
+    let b = Put slot_b p.im in
+    done_then c.args.n 0 0 [] (a ∷ b ∷ []) (numbers_loaded p.layer.count p.layer.distance p.place) (omega arith)
     (done_then c.args.n 0 0 [] (a ∷ []) (b ∷ []) (omega arith)
     (held_done c.args.n S (a ∷ []) [] c.args.numbers.now (λ s. refl) c.put.ensures)
     (held_done c.args.n S (b ∷ []) [] c.args.numbers.now (λ s. refl) c.put-2.ensures))

@@ -17,10 +17,10 @@ returns c =
     let h = Flip slot_im in
     let m = Call Sum slot_minus_re slot_ure slot_re in
     let l = Call Sum slot_minus_im slot_uim slot_im in (
-      omega (arith, c.add-t.ensures.0, c.add-t-2.ensures.0, c.add-t-3.ensures.0, c.add.ensures.0),
-      held_then c.args.n c.args.start c.add-t-2.result c.args.tape.now plus (f ∷ m ∷ h ∷ l ∷ []) (omega (arith, c.add-t.ensures.0, c.add-t-2.ensures.0))
-          (held_then c.args.n c.args.start c.add-t.result c.args.tape.now (Call Sum slot_plus_re slot_ure slot_re ∷ []) (Call Sum slot_plus_im slot_uim slot_im ∷ []) (omega (arith, c.add-t.ensures.0)) c.add-t.ensures.1 c.add-t-2.ensures.1)
-          (held_then c.args.n c.add-t-2.result c.add-t-3.result c.args.tape.now (f ∷ m ∷ []) (h ∷ l ∷ []) (omega (arith, c.add-t-3.ensures.0))
-          (held_then c.args.n c.add-t-2.result c.add-t-2.result c.args.tape.now (f ∷ []) (m ∷ []) (omega arith) c.flip.ensures c.add-t-3.ensures.1)
-          (held_then c.args.n c.add-t-3.result c.add-t-3.result c.args.tape.now (h ∷ []) (l ∷ []) (omega arith) c.flip-2.ensures c.add.ensures.1)),
+      omega (arith, c.call-t.ensures.0, c.call-t-2.ensures.0, c.call-t-3.ensures.0, c.call.ensures.0),
+      held_then c.args.n c.args.start c.call-t-2.result c.args.tape.now plus (f ∷ m ∷ h ∷ l ∷ []) (omega (arith, c.call-t.ensures.0, c.call-t-2.ensures.0))
+          (held_then c.args.n c.args.start c.call-t.result c.args.tape.now (Call Sum slot_plus_re slot_ure slot_re ∷ []) (Call Sum slot_plus_im slot_uim slot_im ∷ []) (omega (arith, c.call-t.ensures.0)) c.call-t.ensures.1 c.call-t-2.ensures.1)
+          (held_then c.args.n c.call-t-2.result c.call-t-3.result c.args.tape.now (f ∷ m ∷ []) (h ∷ l ∷ []) (omega (arith, c.call-t-3.ensures.0))
+          (held_then c.args.n c.call-t-2.result c.call-t-2.result c.args.tape.now (f ∷ []) (m ∷ []) (omega arith) c.flip.ensures c.call-t-3.ensures.1)
+          (held_then c.args.n c.call-t-3.result c.call-t-3.result c.args.tape.now (h ∷ []) (l ∷ []) (omega arith) c.flip-2.ensures c.call.ensures.1)),
     )

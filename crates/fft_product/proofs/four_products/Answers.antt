@@ -12,8 +12,8 @@ returns c =
     let p = Call Product slot_ac slot_a slot_c in
     let q = Call Product slot_bd slot_b slot_d in
     let r = Call Product slot_ad slot_a slot_d in (
-      omega (arith, c.multiply-t.ensures.0, c.multiply-t-2.ensures.0, c.multiply-t-3.ensures.0, c.multiply.ensures.0),
-      held_then c.args.n c.args.start c.multiply-t-3.result c.args.tape.now (p ∷ q ∷ r ∷ []) (Call Product slot_bc slot_b slot_c ∷ []) (omega (arith, c.multiply-t.ensures.0, c.multiply-t-2.ensures.0, c.multiply-t-3.ensures.0))
-          (held_then c.args.n c.args.start c.multiply-t-2.result c.args.tape.now (p ∷ q ∷ []) (r ∷ []) (omega (arith, c.multiply-t.ensures.0, c.multiply-t-2.ensures.0))
-          (held_then c.args.n c.args.start c.multiply-t.result c.args.tape.now (p ∷ []) (q ∷ []) (omega (arith, c.multiply-t.ensures.0)) c.multiply-t.ensures.1 c.multiply-t-2.ensures.1) c.multiply-t-3.ensures.1) c.multiply.ensures.1,
+      omega (arith, c.call-t.ensures.0, c.call-t-2.ensures.0, c.call-t-3.ensures.0, c.call.ensures.0),
+      held_then c.args.n c.args.start c.call-t-3.result c.args.tape.now (p ∷ q ∷ r ∷ []) (Call Product slot_bc slot_b slot_c ∷ []) (omega (arith, c.call-t.ensures.0, c.call-t-2.ensures.0, c.call-t-3.ensures.0))
+          (held_then c.args.n c.args.start c.call-t-2.result c.args.tape.now (p ∷ q ∷ []) (r ∷ []) (omega (arith, c.call-t.ensures.0, c.call-t-2.ensures.0))
+          (held_then c.args.n c.args.start c.call-t.result c.args.tape.now (p ∷ []) (q ∷ []) (omega (arith, c.call-t.ensures.0)) c.call-t.ensures.1 c.call-t-2.ensures.1) c.call-t-3.ensures.1) c.call.ensures.1,
     )

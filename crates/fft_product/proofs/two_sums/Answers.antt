@@ -11,7 +11,7 @@ pub returns : goal.returns
 returns c =
     let f = Flip slot_bd in
     let p = Call Sum slot_re slot_ac slot_bd in (
-      omega (arith, c.add-t.ensures.0, c.add.ensures.0),
-      held_then c.args.n c.args.start c.add-t.result c.args.tape.now (f ∷ p ∷ []) (Call Sum slot_im slot_ad slot_bc ∷ []) (omega (arith, c.add-t.ensures.0))
-          (held_then c.args.n c.args.start c.args.start c.args.tape.now (f ∷ []) (p ∷ []) (omega arith) c.flip.ensures c.add-t.ensures.1) c.add.ensures.1,
+      omega (arith, c.call-t.ensures.0, c.call.ensures.0),
+      held_then c.args.n c.args.start c.call-t.result c.args.tape.now (f ∷ p ∷ []) (Call Sum slot_im slot_ad slot_bc ∷ []) (omega (arith, c.call-t.ensures.0))
+          (held_then c.args.n c.args.start c.args.start c.args.tape.now (f ∷ []) (p ∷ []) (omega arith) c.flip.ensures c.call-t.ensures.1) c.call.ensures.1,
     )

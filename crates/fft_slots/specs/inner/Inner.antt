@@ -3,6 +3,29 @@
 use Rattle.std.specs.Prelude.{◌≡◌, List, ℕ, ◌+◌, ◌*◌, ◌<◌, length}
 use Rattle.fft_numbers.specs.Acts.{Act, Slots, run_shares}
 use Rattle.fft_numbers.specs.Layout.{number_of}
+use Rattle.fft_numbers.specs.Complex.{slot_a, slot_b, slot_c, slot_d, slot_ac, slot_bd, slot_ad, slot_bc, slot_re, slot_im}
+use Rattle.fft_numbers.specs.Layer.{slot_ure, slot_uim, slot_plus_re, slot_plus_im, slot_minus_re, slot_minus_im}
+use Rattle.fft_slots.specs.declared.Slot.{Slot}
+use Rattle.fft_slots.specs.declared.Slot.TheVariants.{A, B, C, D, Ac, Bd, Ad, Bc, Re, Im, URe, UIm, PlusRe, PlusIm, MinusRe, MinusIm}
+
+-- a slot's number
+abbrev pub slot_number : Slot → ℕ
+slot_number A = slot_a
+slot_number B = slot_b
+slot_number C = slot_c
+slot_number D = slot_d
+slot_number Ac = slot_ac
+slot_number Bd = slot_bd
+slot_number Ad = slot_ad
+slot_number Bc = slot_bc
+slot_number Re = slot_re
+slot_number Im = slot_im
+slot_number URe = slot_ure
+slot_number UIm = slot_uim
+slot_number PlusRe = slot_plus_re
+slot_number PlusIm = slot_plus_im
+slot_number MinusRe = slot_minus_re
+slot_number MinusIm = slot_minus_im
 
 -- where slot k's shares begin, and how far apart they lie
 abbrev pub slot_at : ℕ → ℕ

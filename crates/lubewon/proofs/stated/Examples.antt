@@ -1,11 +1,11 @@
 -- The worked examples, the turn-downs and the listing, equation by equation: one that is lost or changed fails here.
+use Rattle.std.specs.Prelude.{Some, None}
 use mathlib.Core.Path.{◌≡◌}
 use mathlib.Core.Bool.{true, false}
 use mathlib.Core.List.{List, [], ◌∷◌, ◌++◌, map}
 use Prim.Native.Nat.{ℕ, ◌-◌, ◌^◌, ◌≤◌, ◌<◌}
 use lib.ListN.{length, get_or, take, replicate}
 use Rattle.word.specs.declared.step.Step.TheVariants.{Const, Xor, And, Not, Shl, Add, Rand}
-use Rattle.word.specs.declared.step.Decoded.TheVariants.{Good, Bad}
 use Rattle.word.specs.Encoding.{plan_step, program_step, word_of}
 use Rattle.checks.specs.Answers.{done, refused, bad_at}
 use Rattle.plain.specs.Machine.{run}
@@ -30,31 +30,31 @@ use Rattle.lubewon.specs.Claims.{Claims}
 use Rattle.lubewon.specs.TurnDowns.{xor_word, TurnDowns}
 
 module _ (h : WordExamples) where
-  word_xor_word : plan_step 0x20080001 ≡ Good (Xor 2 0 1)
+  word_xor_word : plan_step 0x20080001 ≡ Some (Xor 2 0 1)
   word_xor_word = h.xor_word_is
 
   word_second_share : word_of (Xor 34 32 33) ≡ 0x20884021
   word_second_share = h.second_share
 
-  word_kind_zero : plan_step 0x00080001 ≡ Bad
+  word_kind_zero : plan_step 0x00080001 ≡ None
   word_kind_zero = h.kind_zero
 
-  word_rand_word : program_step 0x90000000 ≡ Good (Rand 0)
+  word_rand_word : program_step 0x90000000 ≡ Some (Rand 0)
   word_rand_word = h.rand_word
 
-  word_rand_in_plan : plan_step 0x90000000 ≡ Bad
+  word_rand_in_plan : plan_step 0x90000000 ≡ None
   word_rand_in_plan = h.rand_in_plan
 
-  word_constant : plan_step 0x1003FFFF ≡ Good (Const 0 262143)
+  word_constant : plan_step 0x1003FFFF ≡ Some (Const 0 262143)
   word_constant = h.constant
 
-  word_bit_27 : plan_step 0x28080001 ≡ Bad
+  word_bit_27 : plan_step 0x28080001 ≡ None
   word_bit_27 = h.bit_27
 
-  word_shift_64 : plan_step 0x50080040 ≡ Bad
+  word_shift_64 : plan_step 0x50080040 ≡ None
   word_shift_64 = h.shift_64
 
-  word_register_32 : plan_step 0x20800001 ≡ Bad
+  word_register_32 : plan_step 0x20800001 ≡ None
   word_register_32 = h.register_32
 
   word_wraps : get_or (run (0x80080001 ∷ []) ((2 ^ 64 - 1) ∷ (1 ∷ replicate 30 7))) 2 0 ≡ 0

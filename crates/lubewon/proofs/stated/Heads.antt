@@ -1,12 +1,12 @@
 -- The claims on the head of a share program and on the conversion of a stored one, field by field, over the machines' own definitions. What is
 -- narrowed, halved or asks for more fails here.
+use Rattle.std.specs.Prelude.{None}
 use mathlib.Core.Path.{◌≡◌}
 use mathlib.Core.Bool.{◌&&◌, cond}
 use mathlib.Core.List.{List, ◌∷◌}
 use Prim.Native.Nat.{ℕ, suc, ◌+◌, ◌/◌, ◌%◌, ◌^◌, ◌≤◌}
 use lib.Dec.{T, leb}
 use lib.ListN.{length, take, drop}
-use Rattle.word.specs.declared.step.Decoded.TheVariants.{Bad}
 use Rattle.word.specs.Encoding.{plan_step, program_step, put}
 use Rattle.word.specs.Head.{is_head}
 use Rattle.word.specs.Layout.{program_max}
@@ -96,7 +96,7 @@ module _ (h : HeadsHold) where
   heads_only : (w : ℕ) → T (is_head w) → (2 ≤ w / 2 ^ 18 % 512) × (w / 2 ^ 18 % 512 ≤ 8) × (w ≡ put 10 (w / 2 ^ 18 % 512) 0 0)
   heads_only = h.only
 
-  heads_past : (w : ℕ) → w / 2 ^ 28 ≡ 10 → (program_step w ≡ Bad) × (plan_step w ≡ Bad)
+  heads_past : (w : ℕ) → w / 2 ^ 28 ≡ 10 → (program_step w ≡ None) × (plan_step w ≡ None)
   heads_past = h.past
 
   heads_behind : (program tape : List ℕ) (st : State) (r : Run) → (run_answer program tape st r).number ≡ 3 → 1 ≤ (run_answer program tape st r).place

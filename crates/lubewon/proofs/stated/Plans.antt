@@ -1,12 +1,12 @@
 -- The claims on the built-in plans, field by field, and for each operation at its plan, its operands and its figures: what is narrowed, halved or asks
 -- for more fails here.
+use Rattle.std.specs.Prelude.{Some}
 use mathlib.Core.Path.{◌≡◌}
 use mathlib.Core.List.{List, [], ◌∷◌, ◌++◌}
 use Prim.Native.Nat.{ℕ, ◌+◌, ◌-◌, ◌*◌, ◌≤◌, ◌<◌}
 use lib.Dec.{T}
 use lib.ListN.{length, get_or, set}
 use Rattle.word.specs.declared.step.Step.{Step}
-use Rattle.word.specs.declared.step.Decoded.TheVariants.{Good}
 use Rattle.word.specs.Encoding.{plan_step}
 use Rattle.checks.specs.Answers.{first_bad}
 use Rattle.plain.specs.Machine.{run}
@@ -37,7 +37,7 @@ module _ {plan : List ℕ} {op : ℕ → ℕ → ℕ} (h : Computes plan op) whe
   computes_none_bad : first_bad plan_step plan ≡ length plan
   computes_none_bad = h.none_bad
 
-  computes_entries : (i : ℕ) → i < length plan → (s : Step) × (plan_step (get_or plan i 0) ≡ Good s)
+  computes_entries : (i : ℕ) → i < length plan → (s : Step) × (plan_step (get_or plan i 0) ≡ Some s)
   computes_entries = h.entries
 
   computes_result : (cells : List ℕ) → length cells ≡ 32 → AllWords cells → get_or (run plan cells) 2 0 ≡ op (get_or cells 0 0) (get_or cells 1 0)

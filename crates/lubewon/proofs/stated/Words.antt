@@ -1,4 +1,5 @@
 -- The claims on step words, checking, the plain machine and the adder, field by field: what is narrowed, halved or asks for more fails here.
+use Rattle.std.specs.Prelude.{Option, Some, None}
 use mathlib.Core.Path.{◌≡◌}
 use mathlib.Core.Bool.{Bool}
 use mathlib.Core.Logic.{◌⊎◌}
@@ -9,8 +10,6 @@ use lib.ListN.{length, get_or, set}
 use Rattle.bits.specs.Ops.{add_w}
 use Rattle.bits.specs.Adder.{adder}
 use Rattle.word.specs.declared.step.Step.{Step}
-use Rattle.word.specs.declared.step.Decoded.{Decoded}
-use Rattle.word.specs.declared.step.Decoded.TheVariants.{Good, Bad}
 use Rattle.word.specs.Encoding.{taken, plan_step, word_of, in_plan, in_program}
 use Rattle.word.specs.Table.{dest, becomes}
 use Rattle.word.specs.Parts.{OfParts, OfNone, Exact, WordsExact}
@@ -24,7 +23,7 @@ module _ {rule : Step → Bool} {w : ℕ} (h : OfParts rule w) where
   of_parts_step : Step
   of_parts_step = h.step
 
-  of_parts_apart : taken rule w ≡ Good h.step
+  of_parts_apart : taken rule w ≡ Some h.step
   of_parts_apart = h.apart
 
   of_parts_in_range : T (rule h.step)
@@ -34,14 +33,14 @@ module _ {rule : Step → Bool} {w : ℕ} (h : OfParts rule w) where
   of_parts_together = h.together
 
 module _ {rule : Step → Bool} {w : ℕ} (h : OfNone rule w) where
-  of_none_apart : taken rule w ≡ Bad
+  of_none_apart : taken rule w ≡ None
   of_none_apart = h.apart
 
   of_none_none : (s : Step) → T (rule s) → word_of s ≡ w → ⊥
   of_none_none = h.none
 
 module _ {rule : Step → Bool} (h : Exact rule) where
-  exact_back : (s : Step) → T (rule s) → (word_of s < 2 ^ 32) × (taken rule (word_of s) ≡ Good s)
+  exact_back : (s : Step) → T (rule s) → (word_of s < 2 ^ 32) × (taken rule (word_of s) ≡ Some s)
   exact_back = h.back
 
   exact_every : (w : ℕ) → w < 2 ^ 32 → OfParts rule w ⊎ OfNone rule w
@@ -54,18 +53,18 @@ module _ (h : WordsExact) where
   words_exact_programs : Exact in_program
   words_exact_programs = h.programs
 
-module _ {step : ℕ → Decoded} {l : List ℕ} {place : ℕ} (h : FirstBad step l place) where
+module _ {step : ℕ → Option Step} {l : List ℕ} {place : ℕ} (h : FirstBad step l place) where
   first_bad_within : place ≤ length l
   first_bad_within = h.within
 
-  first_bad_good : (k : ℕ) → k < place → (s : Step) × (step (get_or l k 0) ≡ Good s)
+  first_bad_good : (k : ℕ) → k < place → (s : Step) × (step (get_or l k 0) ≡ Some s)
   first_bad_good = h.good
 
-  first_bad_bad : place < length l → step (get_or l place 0) ≡ Bad
+  first_bad_bad : place < length l → step (get_or l place 0) ≡ None
   first_bad_bad = h.bad
 
 module _ (h : Laws) where
-  laws_one : (w : ℕ) (s : Step) (cells : List ℕ) → plan_step w ≡ Good s
+  laws_one : (w : ℕ) (s : Step) (cells : List ℕ) → plan_step w ≡ Some s
       → run (w ∷ []) cells ≡ set cells (dest s) (becomes s (λ c. get_or cells c 0) 0)
   laws_one = h.one
 
@@ -85,7 +84,7 @@ module _ (C : Claims) where
   words_exact : WordsExact
   words_exact = C.words_exact
 
-  first_bad_is : (step : ℕ → Decoded) (l : List ℕ) → FirstBad step l (first_bad step l)
+  first_bad_is : (step : ℕ → Option Step) (l : List ℕ) → FirstBad step l (first_bad step l)
   first_bad_is = C.first_bad_is
 
   plain_machine : Laws

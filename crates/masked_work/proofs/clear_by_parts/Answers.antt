@@ -9,7 +9,8 @@ loop-at-init c = (omega arith, refl, none_filled (λ k. 0) c.args.cells.now)
 
 pub loop-at-preserved : goal.loop-at-preserved
 loop-at-preserved c =
-    (omega arith, part_size c.loop-at.at c.part_end-end.result c.loop-at.cells _ c.zeros.ensures ∙ c.loop-at.invariant.1, part_filled c.loop-at.at c.part_end-end.result c.loop-at.cells _ (omega arith) (omega arith) c.loop-at.invariant.2 c.zeros.ensures)
+    let zeros = c.fill.ensures.after (λ y h. h) in
+    (omega (arith, c.loop-at-test.true, c.min.ensures), part_size c.loop-at.at _ c.loop-at.cells _ zeros ∙ c.loop-at.invariant.1, part_filled c.loop-at.at _ c.loop-at.cells _ (omega (arith, c.min.ensures)) (omega (arith, c.min.ensures)) c.loop-at.invariant.2 zeros)
 
 pub shape_of-cells : goal.shape_of-cells
 shape_of-cells c = c.loop-at.invariant.1

@@ -1,5 +1,6 @@
 -- From words to steps: a plan's good words are its steps, and its share program's words take apart to the share steps laid out.
 -- Rests on word's Together (parts put together and taken apart are themselves) and Good (every share step is one of a program).
+use Rattle.std.specs.Prelude.{Option, Some, None}
 use mathlib.Core.Path.{◌≡◌, refl, sym, ap, ap₂, ◌∙◌}
 use mathlib.Core.Bool.{Bool, true}
 use mathlib.Core.List.{List, [], ◌∷◌, ◌++◌, map, append_assoc}
@@ -9,8 +10,6 @@ use lib.Dec.{T, eqb}
 use lib.ListN.{length, take, length-take}
 use borrow.Author.Tests.{eqb-true}
 use Rattle.word.specs.declared.step.Step.{Step}
-use Rattle.word.specs.declared.step.Decoded.{Decoded}
-use Rattle.word.specs.declared.step.Decoded.TheVariants.{Good, Bad}
 use Rattle.word.specs.Encoding.{kind_of, bit27, field_d, field_a, field_b, row, named, kind_number, within, in_plan, in_program, held, taken, plan_step, word_of}
 use Rattle.checks.specs.Answers.{first_of, first_bad}
 use Rattle.word.proofs.Ranges.{both}
@@ -25,7 +24,7 @@ use Rattle.masking.proofs.emitted.Good.{blocks_good, laid_within}
 -- ---- one word
 
 -- the step's kind is that of the row
-row_kind : (k d a b : ℕ) (s : Step) → row k d a b ≡ Good s → k ≡ kind_number s
+row_kind : (k d a b : ℕ) (s : Step) → row k d a b ≡ Some s → k ≡ kind_number s
 unfolding row
 row_kind k d a b s =
     pick (eqb k 1) _ _ s (λ t e. is 1 t _ e refl)
@@ -39,26 +38,26 @@ row_kind k d a b s =
     (pick (eqb k 9) _ _ s (λ t. pick (eqb a 0) _ _ s (λ y. pick (eqb b 0) _ _ s (λ z e. is 9 t _ e refl) (never s)) (never s))
     (never s)))))))))
   where
-    same : (x : Step) → Good x ≡ Good s → x ≡ s
+    same : (x : Step) → Some x ≡ Some s → x ≡ s
     same x e = cc
 
-    is : (i : ℕ) → eqb k i ≡ true → (x : Step) → Good x ≡ Good s → kind_number x ≡ i → k ≡ kind_number s
+    is : (i : ℕ) → eqb k i ≡ true → (x : Step) → Some x ≡ Some s → kind_number x ≡ i → k ≡ kind_number s
     is i t x e h = eqb-true k i t ∙ sym h ∙ ap kind_number (same x e)
 
 -- a word that takes apart by a rule: its kind is the step's, and the step is in the rule's range
-held_good : (rule : Step → Bool) (d : Decoded) (s : Step) → held rule d ≡ Good s → (d ≡ Good s) × T (rule s)
-held_good rule (Good x) s = pick (rule x) (Good x) Bad s (λ t e. (e, ok t e)) (never s)
+held_good : (rule : Step → Bool) (d : Option Step) (s : Step) → held rule d ≡ Some s → (d ≡ Some s) × T (rule s)
+held_good rule (Some x) s = pick (rule x) (Some x) None s (λ t e. (e, ok t e)) (never s)
   where
-    ok : rule x ≡ true → Good x ≡ Good s → T (rule s)
+    ok : rule x ≡ true → Some x ≡ Some s → T (rule s)
     ok t e =
         let same : x ≡ s = cc in
         rw (← same, t) tt
-held_good rule Bad s = never s
+held_good rule None s = never s
 
-pub taken_kind : (rule : Step → Bool) (w : ℕ) (s : Step) → taken rule w ≡ Good s → kind_of w ≡ kind_number s
+pub taken_kind : (rule : Step → Bool) (w : ℕ) (s : Step) → taken rule w ≡ Some s → kind_of w ≡ kind_number s
 unfolding named
 taken_kind rule w s h =
-    pick (eqb (bit27 w) 0) (row (kind_of w) (field_d w) (field_a w) (field_b w)) Bad s (λ t. row_kind (kind_of w) (field_d w) (field_a w) (field_b w) s) (never s)
+    pick (eqb (bit27 w) 0) (row (kind_of w) (field_d w) (field_a w) (field_b w)) None s (λ t. row_kind (kind_of w) (field_d w) (field_a w) (field_b w) s) (never s)
     (held_good rule (named w) s h).0
 
 -- ---- a plan without a bad word
@@ -66,7 +65,7 @@ taken_kind rule w s h =
 -- each of its words takes apart to a step of a plan
 pub record PlanWord (w : ℕ) : Type 0 where
   pub step : Step
-  pub apart : plan_step w ≡ Good step
+  pub apart : plan_step w ≡ Some step
   pub in_range : T (in_plan step)
   pub kind : kind_of w ≡ kind_number step
 
@@ -78,14 +77,14 @@ pub plan_words : (plan : List ℕ) → first_bad plan_step plan ≡ length plan 
 plan_words [] h = tt
 plan_words (w ∷ ws) h = by (plan_step w) refl h (plan_words ws)
   where
-    by : (d : Decoded) → plan_step w ≡ d → first_of d (first_bad plan_step ws) ≡ suc (length ws)
+    by : (d : Option Step) → plan_step w ≡ d → first_of d (first_bad plan_step ws) ≡ suc (length ws)
         → (first_bad plan_step ws ≡ length ws → PlanWords ws) → PlanWords (w ∷ ws)
-    by (Good s) e h r = (record { step = s; apart = e; in_range = taken_rule in_plan w s e; kind = taken_kind in_plan w s e }, r (omega arith))
-    by Bad e h r = absurd (omega arith)
+    by (Some s) e h r = (record { step = s; apart = e; in_range = taken_rule in_plan w s e; kind = taken_kind in_plan w s e }, r (omega arith))
+    by None e h r = absurd (omega arith)
 
 pub words_plan : (plan : List ℕ) → PlanWords plan → first_bad plan_step plan ≡ length plan
 words_plan [] h = refl
-words_plan (w ∷ ws) h = ap (λ (d : Decoded). first_of d (first_bad plan_step ws)) h.0.apart ∙ ap suc (words_plan ws h.1)
+words_plan (w ∷ ws) h = ap (λ (d : Option Step). first_of d (first_bad plan_step ws)) h.0.apart ∙ ap suc (words_plan ws h.1)
 
 take_words : (k : ℕ) (plan : List ℕ) → PlanWords plan → PlanWords (take k plan)
 take_words zero plan h = tt
@@ -104,9 +103,9 @@ take_accepted n plan A k =
 
 -- ---- a plan's steps on registers
 
-abbrev pub steps_for : Decoded → List Step
-steps_for (Good s) = laid_out s
-steps_for Bad = []
+abbrev pub steps_for : Option Step → List Step
+steps_for (Some s) = laid_out s
+steps_for None = []
 
 abbrev pub plan_steps : List ℕ → List Step
 plan_steps [] = []
@@ -131,10 +130,10 @@ program_append n (w ∷ ws) rest =
     ap (λ (r : List ℕ). words_for n (plan_step w) ++ r) (program_append n ws rest) ∙ sym (append_assoc (words_for n (plan_step w)) (program n ws) (program n rest))
 
 -- the share program's words are those of the share steps
-words_for_is : (n : ℕ) (d : Decoded) → words_for n d ≡ map word_of (blocks scratch n (steps_for d))
+words_for_is : (n : ℕ) (d : Option Step) → words_for n d ≡ map word_of (blocks scratch n (steps_for d))
 unfolding translated
-words_for_is n (Good s) = refl
-words_for_is n Bad = refl
+words_for_is n (Some s) = refl
+words_for_is n None = refl
 
 pub program_words : (n : ℕ) (plan : List ℕ) → program n plan ≡ map word_of (blocks scratch n (plan_steps plan))
 program_words n [] = refl

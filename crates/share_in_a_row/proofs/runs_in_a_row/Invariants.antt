@@ -1,6 +1,6 @@
--- The invariants and measures of the loops of `runs_in_a_row`.
+-- The invariant of the loop of `runs_in_a_row`.
 use mathlib.Core.Path.{◌≡◌}
-use Prim.Native.Nat.{◌-◌, ◌≤◌, max, min}
+use Prim.Native.Nat.{◌≤◌, max, min}
 use lib.ListN.{length, drop}
 use Rattle.masking.specs.Runs.{standing, runs_of, in_arow}
 use Rattle.share_in_a_row.proofs.runs_in_a_row.Given as goal
@@ -13,6 +13,3 @@ invariant-loop-i l =
     × (l.p ≤ max l.place (length l.program))
     × (l.t ≤ max l.tape_place (length l.tape))
     × (in_arow l.program l.tape (standing l.initial.cells l.place l.tape_place) (runs_of l.counts l.budgets) ≡ in_arow l.program l.tape (standing l.cells l.p l.t) (runs_of (drop l.i l.counts) (drop l.i l.budgets)))
-
-abbrev pub decreases-loop-i : goal.decreases-loop-i
-decreases-loop-i l = min (length l.counts) (length l.budgets) - l.i

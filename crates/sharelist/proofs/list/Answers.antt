@@ -10,24 +10,24 @@ use Rattle.sharelist.proofs.Handing as handing
 use Rattle.sharelist.proofs.Handing.{begun, piece_follows, all_sent}
 use Rattle.sharelist.proofs.list.Goals as goal
 
-pub loop-out-init : goal.loop-out-init
-loop-out-init g c = (c.large_buffer-buffer.ensures, begun _ c.requires.sent_value)
+pub loop-at-init : goal.loop-at-init
+loop-at-init g c = (c.large_buffer-buffer.ensures, begun _ c.requires.sent_value)
 
 pub hand_on-requires : goal.hand_on-requires
 hand_on-requires g c =
-    record { fd_value = c.requires.fd_value; follows = piece_follows c.loop-out.invariant.1 c.list_piece-piece.ensures (omega (arith, c.loop-out.invariant.0)) }
+    record { fd_value = c.requires.fd_value; follows = piece_follows c.loop-at.invariant.1 c.list_piece-piece.ensures (omega (arith, c.loop-at.invariant.0)) }
 
 pub returns-then-piece : goal.returns-then-piece
 returns-then-piece g c =
-    let sent : c.hand_on.new.sent ≡ c.loop-out.sent + length (take c.list_piece-piece.result.bytes c.list_piece-piece.new.out) = rw c.if-not-hand_on.false at c.hand_on.ensures in
-    λ t. all_sent c.loop-out.invariant.1 c.list_piece-piece.ensures (omega (arith, c.loop-out.invariant.0)) sent c.if-piece.true
+    let sent : c.hand_on.new.sent ≡ c.loop-at.sent + length (take c.list_piece-piece.result.bytes c.list_piece-piece.new.out) = c.in_ok-hand_on.ensures in
+    λ t. all_sent c.loop-at.invariant.1 c.list_piece-piece.ensures (omega (arith, c.loop-at.invariant.0)) sent c.if-piece.true
 
-pub loop-out-smaller : goal.loop-out-smaller
-loop-out-smaller g c = goes_on c.list_piece-piece.ensures c.if-piece.false (omega (arith, c.loop-out.invariant.0))
+pub loop-at-smaller : goal.loop-at-smaller
+loop-at-smaller g c = goes_on c.list_piece-piece.ensures c.if-piece.false (omega (arith, c.loop-at.invariant.0))
 
-pub loop-out-preserved : goal.loop-out-preserved
-loop-out-preserved g c =
-    let sent : c.hand_on.new.sent ≡ c.loop-out.sent + length (take c.list_piece-piece.result.bytes c.list_piece-piece.new.out) = rw c.if-not-hand_on.false at c.hand_on.ensures in (
-      c.loop-out.invariant.0 ∙ sym (as_long c.list_piece-piece.ensures.text),
-      handing.goes_on c.loop-out.invariant.1 c.list_piece-piece.ensures (omega (arith, c.loop-out.invariant.0)) sent,
+pub loop-at-preserved : goal.loop-at-preserved
+loop-at-preserved g c =
+    let sent : c.hand_on.new.sent ≡ c.loop-at.sent + length (take c.list_piece-piece.result.bytes c.list_piece-piece.new.out) = c.in_ok-hand_on.ensures in (
+      c.loop-at.invariant.0 ∙ sym (as_long c.list_piece-piece.ensures.text),
+      handing.goes_on c.loop-at.invariant.1 c.list_piece-piece.ensures (omega (arith, c.loop-at.invariant.0)) sent,
     )

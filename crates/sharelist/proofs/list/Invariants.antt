@@ -6,8 +6,8 @@ use Rattle.listing.specs.Pieces.{listed_words}
 use Rattle.sharelist.proofs.Handing.{Standing}
 use Rattle.sharelist.proofs.list.Given as goal
 
-abbrev pub invariant-loop-out : goal.invariant-loop-out
-invariant-loop-out g l = (65536 ≡ length l.buffer) × Standing l.input l.sent l.at
+abbrev pub invariant-loop-at : goal.invariant-loop-at
+invariant-loop-at g l = (65536 ≡ length l.buffer) × Standing l.input l.sent l.at
 
-abbrev pub decreases-loop-out : goal.decreases-loop-out
-decreases-loop-out g l = length (listed_words l.input) - l.at
+abbrev pub decreases-loop-at : goal.decreases-loop-at
+decreases-loop-at g l = length (listed_words l.input) - l.at

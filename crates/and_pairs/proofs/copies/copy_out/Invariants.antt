@@ -1,6 +1,6 @@
--- The invariants and measures of the loops of `copies.copy_out`.
+-- The invariants of the loops of `copies.copy_out`.
 use mathlib.Core.Path.{◌≡◌}
-use Prim.Native.Nat.{ℕ, ◌+◌, ◌-◌, ◌≤◌}
+use Prim.Native.Nat.{ℕ, ◌+◌}
 use lib.ListN.{length}
 use Rattle.word.specs.declared.step.Step.{Step}
 use Rattle.word.specs.declared.step.Step.TheVariants.{Shl}
@@ -14,8 +14,4 @@ abbrev pub each : Place → ℕ → Step
 each p i = Shl (at p i) (264 + i) 0
 
 abbrev pub invariant-loop-i : goal.invariant-loop-i
-invariant-loop-i l =
-    (l.i ≤ l.n) × (length l.cells ≡ 512) × (l.q ≡ at (record { base = l.initial.q; stride = l.over }) l.i) × Rest (each (record { base = l.initial.q; stride = l.over })) l.n l.i l.initial.cells l.cells
-
-abbrev pub decreases-loop-i : goal.decreases-loop-i
-decreases-loop-i l = l.n - l.i
+invariant-loop-i l = (length l.cells ≡ 512) × Rest (each l.d) l.n l.i l.initial.cells l.cells

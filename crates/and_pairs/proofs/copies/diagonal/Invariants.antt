@@ -1,6 +1,6 @@
--- The invariants and measures of the loops of `copies.diagonal`.
+-- The invariants of the loops of `copies.diagonal`.
 use mathlib.Core.Path.{◌≡◌}
-use Prim.Native.Nat.{ℕ, ◌+◌, ◌-◌, ◌≤◌}
+use Prim.Native.Nat.{ℕ, ◌+◌}
 use lib.ListN.{length}
 use Rattle.word.specs.declared.step.Step.{Step}
 use Rattle.word.specs.declared.step.Step.TheVariants.{And}
@@ -14,8 +14,4 @@ abbrev pub each : Place → ℕ → Step
 each p i = And (264 + i) (at p i) (256 + i)
 
 abbrev pub invariant-loop-i : goal.invariant-loop-i
-invariant-loop-i l =
-    (l.i ≤ l.n) × (length l.cells ≡ 512) × (l.q ≡ at (placed l.a l.over) l.i) × Rest (each (placed l.a l.over)) l.n l.i l.initial.cells l.cells
-
-abbrev pub decreases-loop-i : goal.decreases-loop-i
-decreases-loop-i l = l.n - l.i
+invariant-loop-i l = (length l.cells ≡ 512) × Rest (each (placed l.a l.over)) l.n l.i l.initial.cells l.cells

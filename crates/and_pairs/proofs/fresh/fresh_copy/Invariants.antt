@@ -1,6 +1,6 @@
--- The invariants and measures of the loops of `fresh.fresh_copy`.
+-- The invariants of the loops of `fresh.fresh_copy`.
 use mathlib.Core.Path.{◌≡◌}
-use Prim.Native.Nat.{◌-◌, ◌≤◌}
+use Prim.Native.Nat.{◌-◌}
 use lib.ListN.{length}
 use Rattle.masking.specs.Translation.{shares, up_from}
 use Rattle.and_parts.specs.inner.Effects.{at, freshly, placed}
@@ -8,8 +8,5 @@ use Rattle.and_pairs.proofs.fresh.fresh_copy.Given as goal
 
 abbrev pub invariant-loop-k : goal.invariant-loop-k
 invariant-loop-k l =
-    (l.k ≤ l.n) × (length l.cells ≡ 512)
+    (length l.cells ≡ 512)
     × (freshly l.tape l.t l.n (at (placed l.b l.over)) (shares l.n) l.initial.cells ≡ freshly l.tape l.t l.n (at (placed l.b l.over)) (up_from l.k (l.n - l.k)) l.cells)
-
-abbrev pub decreases-loop-k : goal.decreases-loop-k
-decreases-loop-k l = l.n - l.k

@@ -1,5 +1,5 @@
 -- `and_pairs::rows::crosses` meets its contract: rows one after the other.
-use mathlib.Core.Path.{sym, ap, ◌∙◌}
+use mathlib.Core.Path.{ap, ◌∙◌}
 use native.Mathlib.Omega.{arith}
 use Rattle.masking.specs.Machine.{rands_of}
 use Rattle.and_parts.specs.inner.Effects.{at, placed}
@@ -10,25 +10,16 @@ use Rattle.and_pairs.proofs.rows.crosses.Goals as goal
 pub loop-i-init : goal.loop-i-init
 loop-i-init c =
     let e = all_rows (at (placed c.args.a c.args.over)) c.args.n in
-    (omega arith, c.requires.n_bound.1, omega (arith, c.requires.enough, ap rands_of e), renamed e (begin _ _ _ _))
+    (c.requires.n_bound.1, omega (arith, c.requires.enough, ap rands_of e), renamed e (begin _ _ _ _))
 
 pub cross_row-t-requires : goal.cross_row-t-requires
-cross_row-t-requires c = record { i_lt_n = (omega arith, c.requires.n_bound.0, c.loop-i.invariant.1, c.requires.n_bound.2); enough = omega (arith, row_words (at (placed c.args.a c.args.over)) c.args.n c.loop-i.i (omega arith)) }
-
-pub overflow_add-i : goal.overflow_add-i
-overflow_add-i c = omega arith
-
-pub loop-i-smaller : goal.loop-i-smaller
-loop-i-smaller c = omega arith
+cross_row-t-requires c = record { i_lt_n = (omega arith, c.requires.n_bound.0, c.loop-i.invariant.0, c.requires.n_bound.2); enough = omega (arith, row_words (at (placed c.args.a c.args.over)) c.args.n c.loop-i.i (omega arith)) }
 
 pub loop-i-preserved : goal.loop-i-preserved
 loop-i-preserved c =
     let a = at (placed c.args.a c.args.over) in
-    (omega arith, near_size c.cross_row-t.ensures ∙ c.loop-i.invariant.1, omega (arith, row_words a c.args.n c.loop-i.i (omega arith), c.cross_row-t.ensures.place), next_row a c.args.n c.loop-i.i (omega arith) c.loop-i.invariant.3 c.cross_row-t.ensures)
-
-pub shape_of-cells : goal.shape_of-cells
-shape_of-cells c = c.loop-i.invariant.1 ∙ sym c.requires.n_bound.1
+    (near_size c.cross_row-t.ensures ∙ c.loop-i.invariant.0, omega (arith, row_words a c.args.n c.loop-i.i (omega arith), c.cross_row-t.ensures.place), next_row a c.args.n c.loop-i.i (omega arith) c.loop-i.invariant.2 c.cross_row-t.ensures)
 
 pub returns : goal.returns
 returns c =
-    whole (renamed (no_rows (at (placed c.args.a c.args.over)) c.args.n c.loop-i.i (omega arith)) c.loop-i.invariant.3)
+    whole (renamed (no_rows (at (placed c.args.a c.args.over)) c.args.n c.loop-i.i (omega arith)) c.loop-i.invariant.2)

@@ -1,6 +1,6 @@
--- The invariants and measures of the loops of `rows.crosses`.
+-- The invariants of the loops of `rows.crosses`.
 use mathlib.Core.Path.{◌≡◌}
-use Prim.Native.Nat.{◌+◌, ◌-◌, ◌≤◌}
+use Prim.Native.Nat.{◌+◌, ◌≤◌}
 use lib.ListN.{length}
 use Rattle.masking.specs.Translation.{pairs, products, scratch, shares}
 use Rattle.masking.specs.Machine.{rands_of}
@@ -11,8 +11,5 @@ use Rattle.and_pairs.proofs.rows.crosses.Given as goal
 
 abbrev pub invariant-loop-i : goal.invariant-loop-i
 invariant-loop-i l =
-    (l.i ≤ l.n) × (length l.cells ≡ 512) × (l.t + rands_of (rows_from (at (placed l.a l.over)) l.n l.i) ≤ length l.tape)
+    (length l.cells ≡ 512) × (l.t + rands_of (rows_from (at (placed l.a l.over)) l.n l.i) ≤ length l.tape)
     × Toward l.tape (products scratch (at (placed l.a l.over)) (pairs (shares l.n))) l.t-2 l.initial.cells (rows_from (at (placed l.a l.over)) l.n l.i) l.t l.cells
-
-abbrev pub decreases-loop-i : goal.decreases-loop-i
-decreases-loop-i l = l.n - l.i

@@ -1,9 +1,8 @@
 -- `binary64_plain::add::shift_jam` meets its contract: from 63 places on every bit is shifted out, however far (`far`).
 use Rattle.std.proofs.Common.{◌≡◌, ℕ, ◌+◌, ◌*◌, ◌/◌, ◌^◌, ◌<◌, min, Bool, cond, ltb, sym, refl, ap, ◌∙◌, lt_of_lt_of_le, arith, pow_mono}
-use lib.Pow.{shr_le}
 use Rattle.binary64.specs.inner.Steps.{jam}
 use Rattle.binary64.proofs.Cases.{by_lt}
-use Rattle.binary64_plain.proofs.Shifts.{cleared, low_rest}
+use Rattle.binary64_plain.proofs.Shifts.{low_rest}
 use Rattle.binary64.proofs.Jam.{jam_is, jam_all}
 use Rattle.binary64_plain.proofs.add.shift_jam.Goals as goal
 
@@ -11,15 +10,6 @@ far : (d w : ℕ) → w < 2 ^ 63 → (cond (ltb d 63) d 63 < 64) × (jam (cond (
 far d w h =
     by_lt (λ (b : Bool). (cond b d 63 < 64) × (jam (cond b d 63) w ≡ jam d w)) d 63 (λ l. (omega arith, refl))
     (λ l. (omega arith, jam_all 63 w h ∙ sym (jam_all d w (lt_of_lt_of_le h (pow_mono l)))))
-
-pub overflow_sub-rest : goal.overflow_sub-rest
-overflow_sub-rest c = (cleared c.args.w c.choose-k.result c.ranges.w.fits).1
-
-pub overflow_mul-result : goal.overflow_mul-result
-overflow_mul-result c = omega (arith, shr_le c.args.w c.choose-k.result)
-
-pub overflow_add-result : goal.overflow_add-result
-overflow_add-result c = omega (arith, shr_le c.args.w c.choose-k.result)
 
 pub returns : goal.returns
 returns c =

@@ -10,4 +10,4 @@ returns c =
     let bits = c.kept.ensures ∙ ap₂ (λ (E y : ℕ). cond (leb 1015 E) y 0) (ap₂ (λ (x y : ℕ). x + y) c.exponent-ea.ensures c.exponent-eb.ensures) c.encode-bits.ensures in
     c.kept-3.ensures
     ∙ ap₂ (λ (E y : ℕ). cond (not (eqb E 0)) y 0) c.exponent-ea.ensures (c.kept-2.ensures ∙ ap₂ (λ (E y : ℕ). cond (not (eqb E 0)) y 0) c.exponent-eb.ensures bits)
-    ∙ product_selected c.args.a c.args.b c.wrapping_sub_u64.result (omega arith) (c.wrapping_sub_u64.ensures.value ∙ ap₂ (λ (x y : ℕ). x + y) c.exponent-ea.ensures c.exponent-eb.ensures) c.jammed_product.result Z
+    ∙ product_selected c.args.a c.args.b _ (omega arith) (omega (arith, c.exponent-ea.ensures, c.exponent-eb.ensures)) c.jammed_product.result Z

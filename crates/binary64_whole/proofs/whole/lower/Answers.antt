@@ -10,4 +10,4 @@ pub returns : goal.returns
 unfolding lowered_by
 returns c =
     let raised = c.kept.ensures ∙ by_sign (sign c.args.a) c.sign_bit.result c.args.f c.sign_bit.ensures in
-    c.cleared.ensures ∙ ap (λ (t : ℕ). t - bit_and t c.args.f) (c.wrapping_add_u64.ensures.value ∙ ap (λ (x : ℕ). (c.args.a + x) % 2 ^ 64) raised)
+    c.cleared.ensures ∙ ap (λ (t : ℕ). t - bit_and t c.args.f) (ap (λ (x : ℕ). (c.args.a + x) % 2 ^ 64) raised)

@@ -1,17 +1,13 @@
 -- `listing::opening::opening` meets its contract.
 use native.Mathlib.Omega.{arith}
-use Rattle.listing.proofs.Piecewise.{opening_taken, opening_refused, count_most}
+use Rattle.listing.proofs.Piecewise.{opening_done, opening_turned_down, done, count_most}
 use Rattle.listing.proofs.opening.opening.Goals as goal
 
-pub returns-then-answer-ne0 : goal.returns-then-answer-ne0
-returns-then-answer-ne0 c =
-    rw (opening_refused _ (rw c.list_answer-answer.ensures at c.if-answer-ne0.true)) (rw c.list_answer-answer.ensures at c.refused_line.ensures)
-
 pub overflow_cast-share_count : goal.overflow_cast-share_count
-overflow_cast-share_count c =
-    omega (arith, c.share_count.ensures, count_most _ (rw c.list_answer-answer.ensures at c.if-answer-ne0.false))
+overflow_cast-share_count c = omega (arith, c.share_count.ensures, count_most _ (done _ c.in-Ok.ensures))
 
-pub returns : goal.returns
-returns c =
-    rw (opening_taken _ (rw c.list_answer-answer.ensures at c.if-answer-ne0.false))
-    (rw (c.list_answer-answer.ensures, c.share_count.ensures) at c.opening_lines.ensures)
+pub returns-in-Ok : goal.returns-in-Ok
+returns-in-Ok c = rw (opening_done _ c.in-Ok.ensures) (rw c.share_count.ensures at c.opening_lines.ensures)
+
+pub returns-in-Err : goal.returns-in-Err
+returns-in-Err c = rw (opening_turned_down _ _ c.in-Err.ensures) (rw c.from.ensures at c.refused_line.ensures)

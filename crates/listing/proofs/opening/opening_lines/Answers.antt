@@ -14,24 +14,24 @@ slice_bounds-text-start c = omega (arith, first_ends _ _ _ refl c.first_line-fir
 
 pub overflow_add-text : goal.overflow_add-text
 overflow_add-text c =
-    let a = opened c.args.n c.args.words c.args.tape refl c.first_line-first.ensures c.head.ensures c.hex_lines-second.ensures in
-    let m = opening_lines_most c.args.n c.args.words c.args.tape in
+    let a = opened c.args.n c.args.counts.words c.args.counts.tape refl c.first_line-first.ensures c.head.ensures c.hex_lines-second.ensures in
+    let m = opening_lines_most c.args.n c.args.counts.words c.args.counts.tape in
     omega (arith, a.ends, m)
 
 pub slice_bounds-text-end-2 : goal.slice_bounds-text-end-2
 slice_bounds-text-end-2 c =
-    let a = opened c.args.n c.args.words c.args.tape refl c.first_line-first.ensures c.head.ensures c.hex_lines-second.ensures in
-    let m = opening_lines_most c.args.n c.args.words c.args.tape in
+    let a = opened c.args.n c.args.counts.words c.args.counts.tape refl c.first_line-first.ensures c.head.ensures c.hex_lines-second.ensures in
+    let m = opening_lines_most c.args.n c.args.counts.words c.args.counts.tape in
     omega (arith, a.ends, m, appends_long a)
 
 pub slice_bounds-put_text-end : goal.slice_bounds-put_text-end
 slice_bounds-put_text-end c =
-    let a = opened c.args.n c.args.words c.args.tape refl c.first_line-first.ensures c.head.ensures c.hex_lines-second.ensures in
-    let m = opening_lines_most c.args.n c.args.words c.args.tape in
+    let a = opened c.args.n c.args.counts.words c.args.counts.tape refl c.first_line-first.ensures c.head.ensures c.hex_lines-second.ensures in
+    let m = opening_lines_most c.args.n c.args.counts.words c.args.counts.tape in
     sym (length-take-le _ _ (omega (arith, a.ends, m, appends_long a)))
 
 pub returns : goal.returns
 returns c =
-    let a = opened c.args.n c.args.words c.args.tape refl c.first_line-first.ensures c.head.ensures c.hex_lines-second.ensures in
-    let m = opening_lines_most c.args.n c.args.words c.args.tape in
+    let a = opened c.args.n c.args.counts.words c.args.counts.tape refl c.first_line-first.ensures c.head.ensures c.hex_lines-second.ensures in
+    let m = opening_lines_most c.args.n c.args.counts.words c.args.counts.tape in
     rw (← line_taken (omega (arith, m)) a) c.put_text.ensures

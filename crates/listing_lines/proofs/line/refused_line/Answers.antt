@@ -1,33 +1,23 @@
 -- `listing_lines::line::refused_line` meets its contract.
-use Rattle.listing_lines.proofs.Decimal.{labelled_ends}
-use Rattle.listing_lines.proofs.Placed.{start, part, labelled_part, whole, appends_long, line_taken}
-use Rattle.listing_lines.specs.Lines.{decimal, refused_line}
-use lib.Seq.{length-take-le}
-use lib.ListN.{replicate}
-use native.Mathlib.Omega.{arith}
+use mathlib.Core.Path.{◌≡◌, ap, ◌∙◌}
+use mathlib.Core.List.{List, [], ◌++◌}
 use Prim.Native.Nat.{ℕ}
-use mathlib.Core.List.{List, [], ◌∷◌}
-use mathlib.Core.Path.{sym}
+use native.Mathlib.Omega.{arith}
+use lib.ListN.{length}
+use Rattle.listing_lines.specs.Lines.{refused_line}
 use Rattle.listing_lines.proofs.line.refused_line.Goals as goal
 
-abbrev label : List ℕ
-label = 114 ∷ 101 ∷ 102 ∷ 117 ∷ 115 ∷ 101 ∷ 100 ∷ 32 ∷ []
+-- two texts added to a line that was empty
+in_turn : {new one line : List ℕ} (a b : List ℕ) → line ≡ one ++ b → one ≡ new ++ a → new ≡ [] → line ≡ a ++ b
+in_turn a b e f g = rw (e, f, g)
 
-pub append-at-requires : goal.append-at-requires
-append-at-requires c =
-    omega (arith, labelled_ends label c.args.number c.labelled-at.ensures, appends_long c.labelled-at.ensures)
-
-pub slice_bounds-line-end : goal.slice_bounds-line-end
-slice_bounds-line-end c =
-    omega (arith, labelled_ends label c.args.number c.labelled-at.ensures, c.append-at.ensures.ends, appends_long c.labelled-at.ensures, appends_long c.append-at.ensures)
-
-pub slice_bounds-put_text-end : goal.slice_bounds-put_text-end
-slice_bounds-put_text-end c =
-    sym (length-take-le _ _ (omega (arith, labelled_ends label c.args.number c.labelled-at.ensures, c.append-at.ensures.ends, appends_long c.labelled-at.ensures, appends_long c.append-at.ensures)))
+pub push_str-requires : goal.push_str-requires
+push_str-requires c = (omega arith, omega (arith, ap length c.new-line.ensures))
 
 pub returns : goal.returns
 unfolding refused_line
 returns c =
-    let text = refused_line c.args.number in
-    let o = part (10 ∷ []) [] (labelled_part label (decimal c.args.number) (10 ∷ []) (start text (replicate 32 0) 0) c.labelled-at.ensures) c.append-at.ensures in
-    rw (← line_taken {text = text} (omega (arith, o.ends, labelled_ends label c.args.number c.labelled-at.ensures, c.append-at.ensures.ends)) (whole o)) c.put_text.ensures
+    let e : c.as_bytes.result.now ≡ refused_line c.args.number =
+    c.as_bytes.ensures.value ∙ c.as_str.ensures.value
+    ∙ in_turn _ _ c.push_str.ensures.bytes c.push_labelled.ensures.text c.new-line.ensures in
+    rw (← e) c.put_text.ensures

@@ -1,26 +1,19 @@
--- `plan_copy::copy::copy` meets its contract: the loop keeps that the words passed are copied (Copying).
-use mathlib.Core.Path.{refl, ◌∙◌}
-use native.Mathlib.Nat.{le_antisymm}
+-- `plan_copy::copy::copy` meets its contract: what the plan's own call writes stands at the front (Copying).
+use mathlib.Core.Path.{ap, ap₂, ◌∙◌}
+use mathlib.Core.List.{List, ◌++◌}
+use Prim.Native.Nat.{ℕ}
 use native.Mathlib.Omega.{arith}
-use borrow.Author.Rules.{rules}
-use Rattle.plan_copy.proofs.Copying.{none_copied, one_copied, all_copied, copy_refused, copy_done}
+use lib.ListN.{drop}
+use Rattle.checks.specs.Answers.{done}
+use Rattle.plans.proofs.BuiltIns.{built_ins}
+use Rattle.plan_copy.proofs.Copying.{copy_refused, copy_done}
 use Rattle.plan_copy.proofs.copy.copy.Goals as goal
 
-pub returns-then-out-plan : goal.returns-then-out-plan
-returns-then-out-plan c =
-    let r = copy_refused c.args.plan.now c.args.out.now c.if-out-plan.true in
-    (c.refused.ensures ∙ r.0, r.1)
-
-pub loop-i-init : goal.loop-i-init
-loop-i-init c =
-    (omega arith, refl, none_copied c.args.plan.now c.args.out.now)
-
-pub loop-i-preserved : goal.loop-i-preserved
-loop-i-preserved c =
-    (omega arith, search rules, one_copied c.args.plan.now c.args.out.now c.loop-i.out c.loop-i.i c.loop-i.invariant.2 c.if-out-plan.false _ c.loop-i-test.true refl)
+pub returns-then-out-size : goal.returns-then-out-size
+returns-then-out-size g c =
+    let r = copy_refused g.P.BuiltIn.plan c.args.out.now (omega (arith, c.size-size.ensures, c.if-out-size.true)) in record { value = r; holds = built_ins }
 
 pub returns : goal.returns
-returns c =
-    let all = all_copied c.args.plan.now c.args.out.now c.loop-i.out c.loop-i.i c.loop-i.invariant.2 c.if-out-plan.false (le_antisymm c.loop-i.invariant.0 c.loop-i-test.false) in
-    let r = copy_done c.args.plan.now c.args.out.now c.loop-i.out c.if-out-plan.false all in
-    (c.done.ensures ∙ r.0, r.1)
+returns g c =
+    let r = copy_done g.P.BuiltIn.plan c.args.out.now _ (omega (arith, c.size-size.ensures, c.if-out-size.false)) (ap₂ (λ (p : List ℕ) (k : ℕ). p ++ drop k c.args.out.now) c.write.ensures c.size-size.ensures) in
+    record { value = (ap (λ (k : ℕ). done k 0) c.size-size.ensures ∙ r.0, r.1); holds = built_ins }

@@ -1,10 +1,8 @@
 -- `share_run::run::share_run` meets its contract.
-use mathlib.Core.Path.{◌≡◌, ap, ◌∙◌}
-use Prim.Native.Nat.{ℕ, ◌+◌, ◌-◌}
+use Prim.Native.Nat.{◌-◌}
 use native.Mathlib.Omega.{arith}
-use lib.ListN.{take, drop, length-drop}
-use borrow.Author.Tests.{eq-eqb, ne_eqb}
-use Rattle.masking.specs.Runs.{due, standing}
+use lib.ListN.{length-drop}
+use Rattle.masking.specs.Runs.{standing}
 use Rattle.masking.proofs.Demand3.{demand3}
 use Rattle.share_run.proofs.Done.{ready}
 use Rattle.share_run.proofs.Parts.{due_part, rest_part}
@@ -12,45 +10,48 @@ use Rattle.share_run.proofs.run.share_run.Goals as goal
 
 pub overflow_add-end : goal.overflow_add-end
 overflow_add-end c =
-    let r = ready c.args.n c.args.program.now c.args.tape.now (standing c.args.cells.now c.args.place c.args.tape_place) c.args.budget _ c.run_answer-answer.ensures c.if-answer-eq0.true in
-    omega (arith, r.rest.within, r.words)
+    let r = ready c.args.n c.args.program.now c.args.tape.now (standing c.args.cells.now c.args.place c.args.tape_place) c.args.budget _ _ c.in_ok-counts.ensures in
+    omega (arith, r.rest.within, r.smaller)
 
 pub offset_bounds-program-place : goal.offset_bounds-program-place
 offset_bounds-program-place c =
-    let r = ready c.args.n c.args.program.now c.args.tape.now (standing c.args.cells.now c.args.place c.args.tape_place) c.args.budget _ c.run_answer-answer.ensures c.if-answer-eq0.true in
-    omega (arith, r.rest.within, r.words)
+    let r = ready c.args.n c.args.program.now c.args.tape.now (standing c.args.cells.now c.args.place c.args.tape_place) c.args.budget _ _ c.in_ok-counts.ensures in
+    omega (arith, r.rest.within, r.smaller)
 
 pub slice_bounds-exec-end : goal.slice_bounds-exec-end
 slice_bounds-exec-end c =
-    let r = ready c.args.n c.args.program.now c.args.tape.now (standing c.args.cells.now c.args.place c.args.tape_place) c.args.budget _ c.run_answer-answer.ensures c.if-answer-eq0.true in
-    omega (arith, r.rest.within, r.words)
+    let r = ready c.args.n c.args.program.now c.args.tape.now (standing c.args.cells.now c.args.place c.args.tape_place) c.args.budget _ _ c.in_ok-counts.ensures in
+    omega (arith, r.rest.within, r.smaller)
 
 pub offset_bounds-tape-tape_place : goal.offset_bounds-tape-tape_place
 offset_bounds-tape-tape_place c =
-    let r = ready c.args.n c.args.program.now c.args.tape.now (standing c.args.cells.now c.args.place c.args.tape_place) c.args.budget _ c.run_answer-answer.ensures c.if-answer-eq0.true in
+    let r = ready c.args.n c.args.program.now c.args.tape.now (standing c.args.cells.now c.args.place c.args.tape_place) c.args.budget _ _ c.in_ok-counts.ensures in
     omega (arith, r.rest.in_tape)
 
-pub slice_bounds-exec-count-then-answer-eq0 : goal.slice_bounds-exec-count-then-answer-eq0
-slice_bounds-exec-count-then-answer-eq0 c =
-    let r = ready c.args.n c.args.program.now c.args.tape.now (standing c.args.cells.now c.args.place c.args.tape_place) c.args.budget _ c.run_answer-answer.ensures c.if-answer-eq0.true in
+pub slice_bounds-exec-count-2 : goal.slice_bounds-exec-count-2
+slice_bounds-exec-count-2 c =
+    let r = ready c.args.n c.args.program.now c.args.tape.now (standing c.args.cells.now c.args.place c.args.tape_place) c.args.budget _ _ c.in_ok-counts.ensures in
     omega (arith, r.rest.in_tape)
 
-pub slice_bounds-exec-start-then-answer-eq0 : goal.slice_bounds-exec-start-then-answer-eq0
-slice_bounds-exec-start-then-answer-eq0 c =
-    let r = ready c.args.n c.args.program.now c.args.tape.now (standing c.args.cells.now c.args.place c.args.tape_place) c.args.budget _ c.run_answer-answer.ensures c.if-answer-eq0.true in
+pub slice_bounds-exec-start-2 : goal.slice_bounds-exec-start-2
+slice_bounds-exec-start-2 c =
+    let r = ready c.args.n c.args.program.now c.args.tape.now (standing c.args.cells.now c.args.place c.args.tape_place) c.args.budget _ _ c.in_ok-counts.ensures in
     omega (arith, r.rest.in_tape)
 
 pub exec-requires : goal.exec-requires
 exec-requires c =
-    let r = ready c.args.n c.args.program.now c.args.tape.now (standing c.args.cells.now c.args.place c.args.tape_place) c.args.budget _ c.run_answer-answer.ensures c.if-answer-eq0.true in
-    let e : take (c.args.place + c.run_answer-answer.result.words - c.args.place) (drop c.args.place c.args.program.now) ≡ due c.args.program.now c.args.place c.args.budget =
-    ap (λ (k : ℕ). take (c.args.place + k - c.args.place) (drop c.args.place c.args.program.now)) r.words ∙ due_part c.args.program.now c.args.place c.args.budget in record { words_in_bounds = rw (e, rest_part c.args.tape.now c.args.tape_place, length-drop) r.rest.enough; cells_len = r.rest.size }
+    let r = ready c.args.n c.args.program.now c.args.tape.now (standing c.args.cells.now c.args.place c.args.tape_place) c.args.budget _ _ c.in_ok-counts.ensures in
+    let e = due_part c.args.program.now c.args.place c.args.budget r.smaller in
+    record { words_in_bounds = rw (e, rest_part c.args.tape.now c.args.tape_place, length-drop) r.rest.enough; cells_len = r.rest.size }
 
-pub returns-then-answer-eq0 : goal.returns-then-answer-eq0
-returns-then-answer-eq0 c =
-    let r = ready c.args.n c.args.program.now c.args.tape.now (standing c.args.cells.now c.args.place c.args.tape_place) c.args.budget _ c.run_answer-answer.ensures c.if-answer-eq0.true in
-    let e : take (c.args.place + c.run_answer-answer.result.words - c.args.place) (drop c.args.place c.args.program.now) ≡ due c.args.program.now c.args.place c.args.budget =
-    ap (λ (k : ℕ). take (c.args.place + k - c.args.place) (drop c.args.place c.args.program.now)) r.words ∙ due_part c.args.program.now c.args.place c.args.budget in record { answer = c.run_answer-answer.ensures; cells = rw (← c.run_answer-answer.ensures, eq-eqb _ 0 c.if-answer-eq0.true) (rw (e, rest_part c.args.tape.now c.args.tape_place) at c.exec.ensures); holds = demand3 }
+pub returns-in_err-counts-clause-holds : goal.returns-in_err-counts-clause-holds
+returns-in_err-counts-clause-holds c = demand3
 
-pub returns-else-answer-eq0 : goal.returns-else-answer-eq0
-returns-else-answer-eq0 c = record { answer = c.run_answer-answer.ensures; cells = rw (← c.run_answer-answer.ensures, ne_eqb _ 0 c.if-answer-eq0.false); holds = demand3 }
+pub returns-clause-holds : goal.returns-clause-holds
+returns-clause-holds c = demand3
+
+pub returns-clause-cells : goal.returns-clause-cells
+returns-clause-cells c =
+    let r = ready c.args.n c.args.program.now c.args.tape.now (standing c.args.cells.now c.args.place c.args.tape_place) c.args.budget _ _ c.in_ok-counts.ensures in
+    let e = due_part c.args.program.now c.args.place c.args.budget r.smaller in
+    rw (← c.in_ok-counts.ensures) (rw (e, rest_part c.args.tape.now c.args.tape_place) at c.exec.ensures)

@@ -1,6 +1,6 @@
 -- `translation::measure::counted` meets its contract.
-use mathlib.Core.Path.{refl, sym, ap, ap₂, ◌∙◌}
-use Prim.Native.Nat.{◌*◌, ◌≤◌}
+use mathlib.Core.Path.{refl, sym, ap, ap₂}
+use Prim.Native.Nat.{◌*◌}
 use native.Mathlib.Nat.{mul-le-mul}
 use native.Mathlib.Omega.{arith}
 use lib.ListN.{length, drop_of_length-le}
@@ -23,59 +23,57 @@ overflow_mul-words c = omega (arith, mul-le-mul c.requires.le_n.1 c.requires.pla
 pub overflow_add-words : goal.overflow_add-words
 overflow_add-words c = omega (arith, mul-le-mul c.requires.le_n.1 c.requires.plan_len_bound)
 
-pub loop-i-init : goal.loop-i-init
-loop-i-init c = (omega arith, refl, summed _ _)
+pub loop-w-init : goal.loop-w-init
+loop-w-init c = summed _ _
 
 pub overflow_add-words-then-kind-eq-AND : goal.overflow_add-words-then-kind-eq-AND
 overflow_add-words-then-kind-eq-AND c =
-    omega (arith, c.loop-i.invariant.0, c.loop-i.invariant.2.words_small, mul-le-mul c.requires.le_n.1 c.requires.plan_len_bound, c.requires.plan_len_bound, c.length.ensures, length_le c.args.n c.requires.le_n.1 3)
+    omega (arith, c.loop-w.invariant.words_small, mul-le-mul c.requires.le_n.1 c.requires.plan_len_bound, c.requires.plan_len_bound, c.length.ensures, length_le c.args.n c.requires.le_n.1 3)
 
 pub overflow_add-tape : goal.overflow_add-tape
 overflow_add-tape c =
-    omega (arith, c.loop-i.invariant.0, c.loop-i.invariant.2.tape_small, c.requires.plan_len_bound, c.tape-and_tape.ensures, tape_le c.args.n c.requires.le_n.1 3)
+    omega (arith, c.loop-w.invariant.tape_small, c.requires.plan_len_bound, c.tape-and_tape.ensures, tape_le c.args.n c.requires.le_n.1 3)
 
 pub overflow_add-words-then-kind-eq-ADD : goal.overflow_add-words-then-kind-eq-ADD
 overflow_add-words-then-kind-eq-ADD c =
     let most = mul-le-mul c.requires.le_n.1 c.requires.plan_len_bound in
     elim c.if-kind-eq-AND.branch [
       | then-kind-eq-AND v ↦
-          omega (arith, v.words-is, c.loop-i.invariant.0, c.loop-i.invariant.2.words_small, most, c.requires.plan_len_bound, c.length.ensures, c.length-2.ensures, length_le c.args.n c.requires.le_n.1 3, length_le c.args.n c.requires.le_n.1 8)
+          omega (arith, v.words-is, c.loop-w.invariant.words_small, most, c.requires.plan_len_bound, c.length.ensures, c.length-2.ensures, length_le c.args.n c.requires.le_n.1 3, length_le c.args.n c.requires.le_n.1 8)
       | else-kind-eq-AND v ↦
-          omega (arith, v.words-is, c.loop-i.invariant.0, c.loop-i.invariant.2.words_small, most, c.requires.plan_len_bound, c.length-2.ensures, length_le c.args.n c.requires.le_n.1 8)
+          omega (arith, v.words-is, c.loop-w.invariant.words_small, most, c.requires.plan_len_bound, c.length-2.ensures, length_le c.args.n c.requires.le_n.1 8)
     ]
 
 pub overflow_add-tape-then-kind-eq-ADD : goal.overflow_add-tape-then-kind-eq-ADD
 overflow_add-tape-then-kind-eq-ADD c =
     elim c.if-kind-eq-AND.branch [
       | then-kind-eq-AND v ↦
-          omega (arith, v.tape-is, c.loop-i.invariant.0, c.loop-i.invariant.2.tape_small, c.requires.plan_len_bound, c.tape-and_tape.ensures, c.tape-add_tape.ensures, tape_le c.args.n c.requires.le_n.1 3, tape_le c.args.n c.requires.le_n.1 8)
+          omega (arith, v.tape-is, c.loop-w.invariant.tape_small, c.requires.plan_len_bound, c.tape-and_tape.ensures, c.tape-add_tape.ensures, tape_le c.args.n c.requires.le_n.1 3, tape_le c.args.n c.requires.le_n.1 8)
       | else-kind-eq-AND v ↦
-          omega (arith, v.tape-is, c.loop-i.invariant.0, c.loop-i.invariant.2.tape_small, c.requires.plan_len_bound, c.tape-add_tape.ensures, tape_le c.args.n c.requires.le_n.1 8)
+          omega (arith, v.tape-is, c.loop-w.invariant.tape_small, c.requires.plan_len_bound, c.tape-add_tape.ensures, tape_le c.args.n c.requires.le_n.1 8)
     ]
 
-pub loop-i-preserved : goal.loop-i-preserved
-loop-i-preserved c =
-    let i : c.loop-i.i ≤ length c.args.plan.now = c.loop-i.invariant.0 in
-    let on = summed_as c.args.n c.requires.le_n.0 c.requires.le_n.1 c.args.plan.now c.loop-i.i c.loop-i.invariant.2 (omega arith) in
-    let same = summed_plain c.args.n c.requires.le_n.0 c.requires.le_n.1 c.args.plan.now c.loop-i.i c.loop-i.invariant.2 (omega arith) in
+pub loop-w-preserved : goal.loop-w-preserved
+loop-w-preserved c =
+    let on = summed_as c.args.n c.requires.le_n.0 c.requires.le_n.1 c.args.plan.now c.loop-w.w-index c.loop-w.invariant (omega arith) in
+    let same = summed_plain c.args.n c.requires.le_n.0 c.requires.le_n.1 c.args.plan.now c.loop-w.w-index c.loop-w.invariant (omega arith) in
     elim c.if-kind-eq-ADD.branch [
       | then-kind-eq-ADD w ↦
           elim c.if-kind-eq-AND.branch [
             | then-kind-eq-AND v ↦ absurd (omega (arith, w.if-kind-eq-ADD.true, v.if-kind-eq-AND.true))
             | else-kind-eq-AND v ↦
-                (omega arith, refl, on 8 _ _ (sym w.if-kind-eq-ADD.true) (omega (arith, w.words-is, v.words-is, c.length-2.ensures)) (omega (arith, w.tape-is, v.tape-is, c.tape-add_tape.ensures)))
+                on 8 _ _ (sym w.if-kind-eq-ADD.true) (omega (arith, w.words-is, v.words-is, c.length-2.ensures)) (omega (arith, w.tape-is, v.tape-is, c.tape-add_tape.ensures))
           ]
       | else-kind-eq-ADD w ↦
           elim c.if-kind-eq-AND.branch [
             | then-kind-eq-AND v ↦
-                (omega arith, refl, on 3 _ _ (sym v.if-kind-eq-AND.true) (omega (arith, w.words-is, v.words-is, c.length.ensures)) (omega (arith, w.tape-is, v.tape-is, c.tape-and_tape.ensures)))
+                on 3 _ _ (sym v.if-kind-eq-AND.true) (omega (arith, w.words-is, v.words-is, c.length.ensures)) (omega (arith, w.tape-is, v.tape-is, c.tape-and_tape.ensures))
             | else-kind-eq-AND v ↦
-                (omega arith, refl, same _ _ _ refl v.if-kind-eq-AND.false w.if-kind-eq-ADD.false (omega (arith, w.words-is, v.words-is)) (omega (arith, w.tape-is, v.tape-is)))
+                same _ _ _ refl v.if-kind-eq-AND.false w.if-kind-eq-ADD.false (omega (arith, w.words-is, v.words-is)) (omega (arith, w.tape-is, v.tape-is))
           ]
     ]
 
 pub returns : goal.returns
 returns c =
-    let d = drop_of_length-le c.args.plan.now {i = c.loop-i.i} (omega arith) in
-    c.done.ensures
-    ∙ ap₂ done (omega (arith, c.loop-i.invariant.2.words_left, ap (foretold_words c.args.n) d, ap (λ r. c.args.n * length r) d)) (omega (arith, c.loop-i.invariant.2.tape_left, ap (foretold_tape c.args.n) d))
+    let d = drop_of_length-le c.args.plan.now {i = c.loop-w.w-index} (omega arith) in
+    ap₂ done (omega (arith, c.loop-w.invariant.words_left, ap (foretold_words c.args.n) d, ap (λ r. c.args.n * length r) d)) (omega (arith, c.loop-w.invariant.tape_left, ap (foretold_tape c.args.n) d))

@@ -1,0 +1,2 @@
+-- Names that inner contracts cite.
+pub mod Inner

@@ -1,0 +1,2 @@
+-- Names that inner contracts and proofs cite: no claim and no public contract reaches them.
+pub mod PlanLaws

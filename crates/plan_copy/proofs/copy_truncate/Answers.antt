@@ -1,6 +1,0 @@
--- `plan_copy::copy_truncate` meets its contract: the table is the plan (its own contract), copied.
-use Rattle.plans.proofs.BuiltIns.{built_ins}
-use Rattle.plan_copy.proofs.copy_truncate.Goals as goal
-
-pub returns : goal.returns
-returns c = record { value = rw c.words-plan.ensures at c.copy.ensures; holds = built_ins }

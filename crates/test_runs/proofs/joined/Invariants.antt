@@ -1,9 +1,0 @@
--- The invariants and measures of the loops of `joined`.
-use Rattle.std.proofs.Common.{◌-◌, ◌≤◌, rules}
-use Rattle.test_runs.proofs.joined.Given as goal
-
-abbrev pub invariant-loop-i : goal.invariant-loop-i
-invariant-loop-i l = l.i ≤ 16
-
-abbrev pub decreases-loop-i : goal.decreases-loop-i
-decreases-loop-i l = 16 - l.i
