@@ -37,7 +37,10 @@ fn put_before(n: u8, stored: &[u32], out: &mut [u32])
     ensures { out.new ≡ (head_word n ∷ stored.now) ++ drop (1 + length stored.now) out.old }
 {
     out[0] = StepWord::head(n);
-    out[1..=stored.len()].copy_from_slice(stored);
+    // One by one: copied at once, the words would need the C library's memmove.
+    for i in 0..stored.len() {
+        out[1 + i] = stored[i];
+    }
 }
 
 // Puts the head for n shares before a stored program. Turned down with 1; 2 where there are more than 8,257,536 words; 3 at the first bad

@@ -21,6 +21,16 @@ pub trait BuiltIn {
         ensures { out.new ≡ plan };
 }
 
+// A table's words over as many, one by one: copied at once, they would need the C library's memcpy.
+pub(crate) fn put(table: &[u32], out: &mut [u32])
+    requires { length out.old ≡ length table.now }
+    ensures { out.new ≡ table.now }
+{
+    for (i, w) in out.iter_mut().enumerate() {
+        *w = table[i];
+    }
+}
+
 // Copies the plan to the front of `out`, unless `out` is too short for it.
 pub fn copy<P: BuiltIn>(out: &mut [u32]) -> Result<Counts, Refusal>
     ensures value { (answer_of result ≡ copy_answer P.plan out.old) × (out.new ≡ copy_out P.plan out.old) }

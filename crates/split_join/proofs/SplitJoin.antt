@@ -1,13 +1,13 @@
--- Split and join: there and back, and what split and join make of the words. Rests on the ring of words.
+-- Split and join: there and back, and what split's loop keeps. Rests on the ring of words and lib.Seq's `paste`.
 use mathlib.Core.Path.{◌≡◌, refl, sym, ap, ap₂, ◌∙◌}
 use mathlib.Core.Bool.{Bool, true, false, not}
 use mathlib.Core.List.{List, [], ◌∷◌, ◌++◌, append-nil}
 use Prim.Native.Nat.{ℕ, suc, ◌+◌, ◌-◌, ◌≤◌, ◌<◌}
+use native.Mathlib.Numerals.{add-one}
 use native.Mathlib.Omega.{arith}
 use lib.Dec.{ltb}
-use lib.ListN.{length, take, set, drop_of_length-le}
-use lib.Seq.{length-take-le}
-use borrow.Rule.Slice.PartMut.{post_of, put_mid}
+use lib.ListN.{length, get_or, take, set, drop_of_length-le}
+use lib.Seq.{length-take-le, take-suc, paste, paste-zero, paste-suc}
 use borrow.Author.Tests.{ltb-false, not-false}
 use lib.Bits.{bit_xor}
 use Rattle.std.specs.List.{fold}
@@ -31,13 +31,40 @@ pub xor_fold : (xs : List ℕ) → fold (λ x y. bit_xor x y) 0 xs ≡ xor_all x
 unfolding xor_w
 xor_fold xs = fold_from 0 xs ∙ xor_zero_l (xor_all xs)
 
--- masks put behind share 0, and the word with them taken out put there
-pub masked : (word w : ℕ) (out masks : List ℕ) → 0 < length out → w ≡ bit_xor word (xor_all masks) → set (put_mid 1 (length out - 1) out masks) 0 w ≡ split_of word masks
-unfolding xor_w
-masked word w [] masks h e = absurd (omega arith)
-masked word w (x ∷ d) masks h e =
-    let none : post_of 1 (length (x ∷ d) - 1) (x ∷ d) ≡ [] = drop_of_length-le d {i = length (x ∷ d) - 1} (omega arith) in
-    ap₂ (λ (v : ℕ) (r : List ℕ). v ∷ (masks ++ r)) e none ∙ ap (λ (r : List ℕ). bit_xor word (xor_all masks) ∷ r) (append-nil masks)
+xor_append : (xs ys : List ℕ) → xor_all (xs ++ ys) ≡ xor_w (xor_all xs) (xor_all ys)
+xor_append [] ys = sym (xor_zero_l (xor_all ys))
+xor_append (x ∷ xs) ys = ap (xor_w x) (xor_append xs ys) ∙ sym (xor_assoc x (xor_all xs) (xor_all ys))
+
+-- one word more
+pub xor_next : (xs : List ℕ) (i : ℕ) → i < length xs → xor_w (xor_all (take i xs)) (get_or xs i 0) ≡ xor_all (take (i + 1) xs)
+xor_next xs i h =
+    ap (xor_w (xor_all (take i xs))) (sym (xor_zero (get_or xs i 0)))
+    ∙ sym (ap (λ (k : ℕ). xor_all (take k xs)) (add-one i) ∙ ap xor_all (take-suc xs i 0 h) ∙ xor_append (take i xs) (get_or xs i 0 ∷ []))
+
+-- ---- a split over the output d: i masks are written after share 0, and taken out of the word
+pub record Masking (word : ℕ) (tape d : List ℕ) (i : ℕ) (out : List ℕ) (first : ℕ) : Type 0 where
+  pub written : out ≡ paste d 1 tape i
+  pub taken_out : first ≡ xor_w word (xor_all (take i tape))
+
+pub none_masked : (word : ℕ) (tape d : List ℕ) → Masking word tape d 0 d word
+none_masked word tape d = record { written = paste-zero d 1 tape; taken_out = sym (xor_zero word) }
+
+pub one_masked : (word : ℕ) (tape d : List ℕ) (i : ℕ) (out : List ℕ) (first : ℕ) → Masking word tape d i out first → i + 1 < length d → i < length tape
+    → Masking word tape d (i + 1) (set out (i + 1) (get_or tape i 0)) (xor_w first (get_or tape i 0))
+one_masked word tape d i out first m room h =
+    let e : i + 1 ≡ 1 + i = omega arith in
+    record {
+      written = ap₂ (λ (o : List ℕ) (k : ℕ). set o k (get_or tape i 0)) m.written e ∙ paste-suc d 1 tape i 0 (omega arith) h ∙ ap (paste d 1 tape) (sym (add-one i));
+      taken_out = ap (λ (w : ℕ). xor_w w (get_or tape i 0)) m.taken_out ∙ xor_assoc word (xor_all (take i tape)) (get_or tape i 0) ∙ ap (xor_w word) (xor_next tape i h);
+    }
+
+pub all_masked : (word : ℕ) (tape d : List ℕ) (i : ℕ) (out : List ℕ) (first : ℕ) → Masking word tape d i out first → length d ≡ i + 1
+    → set out 0 first ≡ split_of word (take i tape)
+all_masked word tape [] i out first m e = absurd (omega arith)
+all_masked word tape (x ∷ d) i out first m e =
+    ap₂ (λ (o : List ℕ) (w : ℕ). set o 0 w) m.written m.taken_out
+    ∙ ap (λ (r : List ℕ). xor_w word (xor_all (take i tape)) ∷ r)
+    (ap (λ (r : List ℕ). take i tape ++ r) (drop_of_length-le (x ∷ d) {i = 1 + i} (omega arith)) ∙ append-nil (take i tape))
 
 -- ---- answers
 -- what a split that is done has shown of lengths

@@ -28,9 +28,13 @@ fn mask(word: u64, tape: &[u64], out: &mut [u64])
     requires { (0 < length out.old) × (length out.old ≤ length tape.now + 1) }
     ensures { out.new ≡ split_of word (take (length out.old - 1) tape.now) }
 {
-    let masks = &tape[..out.len() - 1];
-    out[1..].copy_from_slice(masks);
-    out[0] = word ^ unmask(masks);
+    // One by one: copied at once, two shares would lie side by side in a register.
+    let mut first = word;
+    for i in 0..out.len() - 1 {
+        first ^= tape[i];
+        out[i + 1] = tape[i];
+    }
+    out[0] = first;
 }
 
 // Splits `word` into as many shares as `out` has words, by the tape's first words. Turned down with 1 where that is not 2 to 8, and with 6

@@ -4,10 +4,10 @@ use Rattle.word.specs.Encoding.{put}
 use Rattle.plans.specs.words.NearestPlan.{nearest_plan}
 use Rattle.plan_copy.proofs.nearest_table.NearestBuiltIn.write.Goals as goal
 
-pub copy_from_slice-requires : goal.copy_from_slice-requires
+pub put-requires : goal.put-requires
 unfolding nearest_plan
-copy_from_slice-requires c = c.requires
+put-requires c = c.requires
 
 pub returns : goal.returns
 unfolding nearest_plan put
-returns c = c.copy_from_slice.ensures.after ∙ refl
+returns c = c.put.ensures ∙ refl

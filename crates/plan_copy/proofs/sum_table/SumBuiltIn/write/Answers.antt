@@ -4,10 +4,10 @@ use Rattle.word.specs.Encoding.{put}
 use Rattle.plans.specs.words.SumPlan.{sum_plan}
 use Rattle.plan_copy.proofs.sum_table.SumBuiltIn.write.Goals as goal
 
-pub copy_from_slice-requires : goal.copy_from_slice-requires
+pub put-requires : goal.put-requires
 unfolding sum_plan
-copy_from_slice-requires c = c.requires
+put-requires c = c.requires
 
 pub returns : goal.returns
 unfolding sum_plan put
-returns c = c.copy_from_slice.ensures.after ∙ refl
+returns c = c.put.ensures ∙ refl

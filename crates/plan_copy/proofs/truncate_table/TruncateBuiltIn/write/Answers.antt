@@ -4,10 +4,10 @@ use Rattle.word.specs.Encoding.{put}
 use Rattle.plans.specs.words.TruncatePlan.{truncate_plan}
 use Rattle.plan_copy.proofs.truncate_table.TruncateBuiltIn.write.Goals as goal
 
-pub copy_from_slice-requires : goal.copy_from_slice-requires
+pub put-requires : goal.put-requires
 unfolding truncate_plan
-copy_from_slice-requires c = c.requires
+put-requires c = c.requires
 
 pub returns : goal.returns
 unfolding truncate_plan put
-returns c = c.copy_from_slice.ensures.after ∙ refl
+returns c = c.put.ensures ∙ refl
