@@ -7,7 +7,7 @@ ghost use Rattle.fft_slots.specs.inner.Inner.{Done};
 ghost use Rattle.fft_moves.specs.inner.Inner.{numbers_loaded};
 
 use fft_sizes::pair::Pair;
-use fft_slots::{Slot, put};
+use fft_slots::Slot;
 
 // v and u into their slots.
 fn load(n: usize, pair: Pair, numbers: &[u64], work: &mut [u64])
@@ -28,8 +28,8 @@ pub fn take(n: usize, pair: Pair, numbers: &[u64], work: &mut [u64])
     requires { (2 ≤ n) × (n ≤ 8) × (length numbers.now ≡ 2 * pair.layer.count * n) × (length work.old ≡ 512) }
     ensures { Done n (2 * pair.layer.count) (pair_taken pair.layer.count pair.layer.distance pair.re pair.im pair.place) [] numbers.now work.old numbers.now work.new }
 {
-    put(n, Slot::A, pair.re, work);
-    put(n, Slot::B, pair.im, work);
+    Slot::A.put(n, pair.re, work);
+    Slot::B.put(n, pair.im, work);
     load(n, pair, numbers, work);
 }
 

@@ -11,7 +11,7 @@ use fft_calls::{Add, call};
 use fft_moves::{put_back, take};
 use fft_product::multiply_complex;
 use fft_sizes::pair::Pair;
-use fft_slots::{Slot, flip};
+use fft_slots::Slot;
 
 // u plus the product, and then u minus it, each real part first. The signs are flipped one by one: side by side, the compiler flips both in one
 // wide word.
@@ -21,9 +21,9 @@ fn plus_minus(n: usize, tape: &[u64], start: usize, work: &mut [u64]) -> usize
 {
     let t = call::<Add>(n, Slot::PlusRe, Slot::URe, Slot::Re, tape, start, work);
     let t = call::<Add>(n, Slot::PlusIm, Slot::UIm, Slot::Im, tape, t, work);
-    flip(n, Slot::Re, work);
+    Slot::Re.flip(n, work);
     let t = call::<Add>(n, Slot::MinusRe, Slot::URe, Slot::Re, tape, t, work);
-    flip(n, Slot::Im, work);
+    Slot::Im.flip(n, work);
     call::<Add>(n, Slot::MinusIm, Slot::UIm, Slot::Im, tape, t, work)
 }
 

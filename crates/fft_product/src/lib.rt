@@ -8,7 +8,7 @@ ghost use Rattle.fft_slots.specs.inner.Inner.{HeldDone};
 ghost use Rattle.fft_product.specs.inner.Inner.{four_products, two_sums};
 
 use fft_calls::{Add, Multiply, call};
-use fft_slots::{Slot, flip};
+use fft_slots::Slot;
 
 // Products ac, bd, ad, bc in this order, over the tape from `start` on; the answer is the next place.
 fn four_products(n: usize, tape: &[u64], start: usize, work: &mut [u64]) -> usize
@@ -26,7 +26,7 @@ fn two_sums(n: usize, tape: &[u64], start: usize, work: &mut [u64]) -> usize
     requires { (2 ≤ n) × (n ≤ 8) × (length work.old ≡ 512) × (start + tape_for n two_sums ≤ length tape.now) }
     ensures { (result ≡ start + tape_for n two_sums) × HeldDone n two_sums (drop start tape.now) work.old work.new }
 {
-    flip(n, Slot::Bd, work);
+    Slot::Bd.flip(n, work);
     let t = call::<Add>(n, Slot::Re, Slot::Ac, Slot::Bd, tape, start, work);
     call::<Add>(n, Slot::Im, Slot::Ad, Slot::Bc, tape, t, work)
 }

@@ -40,12 +40,20 @@ pub enum Slot {
 }
 
 impl Slot {
+    // Its number.
+    fn number(self) -> usize
+        ensures is { result ≡ slot_number self }
+        ensures few { result < 16 }
+    {
+        self as usize
+    }
+
     // The cell of share 0.
     pub fn cell(self) -> usize
         ensures at { result ≡ slot_at (slot_number self) }
         ensures few { result < 368 }
     {
-        HELD + self as usize
+        HELD + self.number()
     }
 
     // Into it, the shares that lie `step` apart from `at` on.
@@ -63,24 +71,40 @@ impl Slot {
     {
         copy(n, work, self.cell(), SLOTS, to, at, step);
     }
+
+    // A plain word into it.
+    pub fn put(self, n: usize, word: u64, work: &mut [u64])
+        requires { (2 ≤ n) × (n ≤ 8) × (length work.old ≡ 512) }
+        ensures { HeldDone n (Put (slot_number self) word ∷ []) [] work.old work.new }
+    {
+        put(n, self.number(), word, work);
+    }
+
+    // The sign bit of its number.
+    pub fn flip(self, n: usize, work: &mut [u64])
+        requires { (2 ≤ n) × (n ≤ 8) × (length work.old ≡ 512) }
+        ensures { HeldDone n (Flip (slot_number self) ∷ []) [] work.old work.new }
+    {
+        flip(n, self.number(), work);
+    }
 }
 
-// A plain word into a slot: share 0, with zeros beside it.
-pub fn put(n: usize, slot: Slot, word: u64, work: &mut [u64])
-    requires { (2 ≤ n) × (n ≤ 8) × (length work.old ≡ 512) }
-    ensures { HeldDone n (Put (slot_number slot) word ∷ []) [] work.old work.new }
+// A plain word into slot k: share 0, with zeros beside it.
+pub fn put(n: usize, k: usize, word: u64, work: &mut [u64])
+    requires { (2 ≤ n) × (n ≤ 8) × (k < 16) × (length work.old ≡ 512) }
+    ensures { HeldDone n (Put k word ∷ []) [] work.old work.new }
 {
     let mut shares = [0u64; 8];
     shares[0] = word;
-    slot.load(n, &shares, 0, 1, work);
+    copy(n, &shares, 0, 1, work, HELD + k, SLOTS);
 }
 
-// The sign bit of a slot's number, in share 0 alone.
-pub fn flip(n: usize, slot: Slot, work: &mut [u64])
-    requires { (2 ≤ n) × (n ≤ 8) × (length work.old ≡ 512) }
-    ensures { HeldDone n (Flip (slot_number slot) ∷ []) [] work.old work.new }
+// The sign bit of slot k's number, in share 0 alone.
+pub fn flip(n: usize, k: usize, work: &mut [u64])
+    requires { (2 ≤ n) × (n ≤ 8) × (k < 16) × (length work.old ≡ 512) }
+    ensures { HeldDone n (Flip k ∷ []) [] work.old work.new }
 {
-    work[slot.cell()] ^= SIGN;
+    work[HELD + k] ^= SIGN;
 }
 
 // The numbers of slots a and b in registers 0 and 1.

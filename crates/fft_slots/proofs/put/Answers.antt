@@ -8,9 +8,8 @@ use Rattle.masking.proofs.emitted.Counts.{by_count}
 use Rattle.fft_numbers.specs.Acts.{plain_shares}
 use Rattle.fft_numbers.specs.Layout.{number_of}
 use Rattle.fft_copies.specs.inner.Inner.{written}
-use Rattle.fft_slots.specs.inner.Inner.{slot_at, slot_number, slot_step}
+use Rattle.fft_slots.specs.inner.Inner.{slot_at, slot_step}
 use Rattle.fft_slots.proofs.Holding.{held_written}
-use Rattle.fft_slots.proofs.Sixteen.{slot_few}
 use Rattle.fft_slots.proofs.put.Goals as goal
 
 -- the word and zeros, as many as there are shares
@@ -19,6 +18,5 @@ plain_number w = by_count (λ n. number_of n 1 0 (set (replicate 8 0) 0 w) ≡ p
 
 pub returns : goal.returns
 returns c s H =
-    let k = slot_number c.args.slot in
-    let e = c.load.ensures ∙ ap (λ (xs : List ℕ). written slot_step (slot_at k) 0 xs c.args.work.now) (plain_number c.args.word c.args.n c.requires.0 c.requires.1) in
-    rw e (held_written c.args.n c.requires.1 k (slot_few c.args.slot) c.args.work.now s H (plain_shares c.args.n c.args.word) (omega (arith, length-replicate {A = ℕ} (c.args.n - 1) 0)))
+    let e = c.copy.ensures ∙ ap (λ (xs : List ℕ). written slot_step (slot_at c.args.k) 0 xs c.args.work.now) (plain_number c.args.word c.args.n c.requires.0 c.requires.1) in
+    rw e (held_written c.args.n c.requires.1 c.args.k c.requires.2 c.args.work.now s H (plain_shares c.args.n c.args.word) (omega (arith, length-replicate {A = ℕ} (c.args.n - 1) 0)))
