@@ -1,12 +1,13 @@
 // Complex numbers on plain words: the product, and one layer of the transform. What they give stands in fft_numbers's specs.
 #![tactic(auto)]
 
-ghost use Rattle.std.specs.Prelude.{◌≡◌};
-ghost use Rattle.checks.specs.Answers.{answer_of};
+ghost use Rattle.std.specs.Prelude.{◌≡◌, ◌*◌, IfErr, IfOk};
+ghost use Rattle.checks.specs.Answers.{answer_of, done, refusal_of};
 ghost use Rattle.binary64.specs.Sum.{sum};
 ghost use Rattle.fft_numbers.specs.Acts.{flipped};
-ghost use Rattle.fft_numbers.specs.Calls.{plain_call_answer, plain_numbers};
+ghost use Rattle.fft_numbers.specs.Calls.{plain_call_answer, plain_layer_answer, plain_numbers};
 ghost use Rattle.fft_numbers.specs.Complex.{complex_im, complex_re};
+ghost use Rattle.fft_numbers.specs.Layer.{block_count};
 ghost use Rattle.fft_numbers.specs.Means.{LayerMeans};
 
 use crate::pairs::all_pairs;
@@ -45,6 +46,31 @@ pub fn product(a: u64, b: u64, c: u64, d: u64) -> Complex
     Complex { re, im }
 }
 
+// The answer by lengths: the turn-downs in their order, or the layer, whose sizes are right then.
+#[tactic(auto, unfolding(fft_numbers::specs::Calls::plain_layer_answer))]
+fn layer_answer(
+    count: usize,
+    distance: usize,
+    numbers: usize,
+    factors: usize,
+) -> Result<Layer, Refusal>
+    ensures refused { IfErr result (λ e. plain_layer_answer count distance numbers factors ≡ refusal_of e) }
+    ensures done { IfOk result (λ l. plain_layer_answer count distance numbers factors ≡ done 0 0) }
+    ensures layer { IfOk result (λ l. (l.count ≡ count) × (l.distance ≡ distance)) }
+    ensures lengths { IfOk result (λ l. (numbers ≡ 2 * count) × (factors ≡ 2 * block_count count distance)) }
+{
+    let Some(layer) = Layer::new(count, distance) else {
+        return Err(Refusal::Layer);
+    };
+    if numbers != 2 * count {
+        return Err(Refusal::Length);
+    }
+    if factors != 2 * layer.blocks() {
+        return Err(Refusal::Length);
+    }
+    Ok(layer)
+}
+
 // One layer over `count` complex numbers at `distance`: real parts and then imaginary parts, changed in place. `factors` has a factor for each
 // block of twice the distance, real parts and then imaginary ones. Turned down with 7 where count or distance is not a power of two, count is not
 // 2 to 1,024 or distance not below it, and with 4 where a slice has the wrong length; `numbers` is then as it was.
@@ -59,15 +85,7 @@ pub fn layer(
     ensures numbers { numbers.new ≡ plain_numbers count distance numbers.old factors.now }
     ensures holds { LayerMeans }
 {
-    let Some(layer) = Layer::new(count, distance) else {
-        return Err(Refusal::Layer);
-    };
-    if numbers.len() != 2 * count {
-        return Err(Refusal::Length);
-    }
-    if factors.len() != 2 * layer.blocks() {
-        return Err(Refusal::Length);
-    }
+    let layer = layer_answer(count, distance, numbers.len(), factors.len())?;
     all_pairs(layer, numbers, factors);
     Ok(Counts::NONE)
 }

@@ -7,6 +7,7 @@ ghost use Rattle.masked_call.specs.Shares.{call_answer, result_after, result_sha
 use crate::compiled_plan::CompiledPlan;
 use crate::run::done;
 use checks::refusal::{Counts, Refusal};
+use masked_call::one_operand::NONE;
 use masked_call::operation::operation_answer;
 use masked_work::{end, place};
 
@@ -55,7 +56,7 @@ pub fn call_of_one<P: CompiledPlan>(
     ensures res { res.new ≡ result_after P.plan x.now (zeros_for x.now) res.old work.old tape.now }
     ensures work { work.new ≡ work_after P.plan x.now (zeros_for x.now) res.old work.old tape.now }
 {
-    let zeros = [0; 8];
+    let zeros = NONE;
     let n = x.len().min(8);
     call::<P>(x, &zeros[..n], res, work, tape)
 }

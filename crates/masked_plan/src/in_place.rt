@@ -6,6 +6,7 @@ ghost use Rattle.masked_call.specs.Shares.{call_answer, result_after, work_after
 use crate::calls::finish;
 use crate::compiled_plan::CompiledPlan;
 use checks::refusal::{Counts, Refusal};
+use masked_call::one_operand::NONE;
 use masked_call::operation::operation_answer;
 use masked_work::end;
 
@@ -36,7 +37,7 @@ pub fn call_of_one<P: CompiledPlan>(
     ensures x { x.new ≡ result_after P.plan x.old (zeros_for x.old) x.old work.old tape.now }
     ensures work { work.new ≡ work_after P.plan x.old (zeros_for x.old) x.old work.old tape.now }
 {
-    let zeros = [0; 8];
+    let zeros = NONE;
     let n = x.len().min(8);
     call::<P>(x, &zeros[..n], work, tape)
 }

@@ -17,7 +17,13 @@ use word_steps::{is_head, program_step};
 fn can_be_done(word: u32) -> bool
     ensures { result ≡ (is_head word || is_good (program_step word)) }
 {
-    is_head(StepWord::from(word)) || program_step(StepWord::from(word)).is_some()
+    if is_head(StepWord::from(word)) {
+        return true;
+    }
+    let Some(_) = program_step(StepWord::from(word)) else {
+        return false;
+    };
+    true
 }
 
 // The answer: 3 for a bad word, then the rest of a share run's, 4 to 6, over that word alone.
