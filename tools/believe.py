@@ -14,7 +14,7 @@ from pathlib import Path
 
 CRATES = Path(__file__).resolve().parent.parent / "crates"
 DEMANDS = ["measure", "translate", "plain_run", "share_run", "one_share_step"]
-OTHERS = ["sharelist/src/main.rt", "checks/src/reader.rt", "compiled_order/src/lib.rt"]
+OTHERS = ["sharelist/src/main.rt", "checks/src/reader.rt", "compiled_order/src/lib.rt", "masked_plan/src/calls.rt", "masked_plan/src/in_place.rt"]
 USE = re.compile(r"^(?:ghost )?use Rattle\.(\w+)\.specs\.([\w.]+?)(?:\.\{(.*)\}| as (\S+?));?$", re.M)
 DEFINED = re.compile(r"(?:(?:abbrev|unfoldable|pub) )+(?:record |data )?([^\s:]+)")
 sections, lines_of, scopes = {}, {}, {}  # by crate, file and name; scopes by crate and file

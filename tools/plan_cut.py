@@ -210,7 +210,9 @@ class Plan:
             refuse(f"{name} is no name: small letters and digits, a letter first")
         if not section.get("title") or not section.get("words") or section.get("operands") not in ("1", "2"):
             refuse(f"{name} wants a title, words, and 1 or 2 operands")
-        self.crate, self.name, self.title = "compiled_" + name, name.capitalize() + "Plan", section["title"]
+        # the type of the plan; CompiledPlan is the trait's name
+        self.name = "CompiledOwnPlan" if name == "compiled" else name.capitalize() + "Plan"
+        self.crate, self.title = "compiled_" + name, section["title"]
         self.own = "plan" not in section
         own = "Rattle.%s.specs.Plan.%s_plan" % (self.crate, name)
         self.module, _, self.plan = section.get("plan", own).rpartition(".")
