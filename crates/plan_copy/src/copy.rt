@@ -22,7 +22,7 @@ pub trait BuiltIn {
 }
 
 // A table's words over as many, one by one: copied at once, they would need the C library's memcpy.
-pub(crate) fn put(table: &[u32], out: &mut [u32])
+pub(crate) fn write_table(table: &[u32], out: &mut [u32])
     requires { length out.old ≡ length table.now }
     ensures { out.new ≡ table.now }
 {

@@ -1,7 +1,7 @@
 // The words of floor's plan.
 ghost use Rattle.plans.specs.words.FloorPlan.{floor_plan};
 
-use crate::copy::{BuiltIn, put};
+use crate::copy::{BuiltIn, write_table};
 
 const FLOOR: [u32; 297] = [
     0x50580006, 0x60582C3A, 0x505C0001, 0x605C2E3B, 0x10300000, 0x40301800, 0x50301820, 0x600C2C05,
@@ -55,6 +55,6 @@ impl BuiltIn for Floor {
     }
 
     fn write(out: &mut [u32]) {
-        put(&FLOOR, out);
+        write_table(&FLOOR, out);
     }
 }

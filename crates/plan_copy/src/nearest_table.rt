@@ -1,7 +1,7 @@
 // The words of nearest's plan.
 ghost use Rattle.plans.specs.words.NearestPlan.{nearest_plan};
 
-use crate::copy::{BuiltIn, put};
+use crate::copy::{BuiltIn, write_table};
 
 const NEAREST: [u32; 301] = [
     0x50580006, 0x60582C3A, 0x505C0001, 0x605C2E3B, 0x10300000, 0x40301800, 0x50301820, 0x600C2C05,
@@ -55,6 +55,6 @@ impl BuiltIn for Nearest {
     }
 
     fn write(out: &mut [u32]) {
-        put(&NEAREST, out);
+        write_table(&NEAREST, out);
     }
 }

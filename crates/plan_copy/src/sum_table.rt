@@ -1,7 +1,7 @@
 // The words of the sum's plan.
 ghost use Rattle.plans.specs.words.SumPlan.{sum_plan};
 
-use crate::copy::{BuiltIn, put};
+use crate::copy::{BuiltIn, write_table};
 
 const SUM: [u32; 738] = [
     0x50300201, 0x60301835, 0x50340001, 0x60341A35, 0x50641810, 0x2064320D, 0x40643200, 0x50643220,
@@ -110,6 +110,6 @@ impl BuiltIn for Sum {
     }
 
     fn write(out: &mut [u32]) {
-        put(&SUM, out);
+        write_table(&SUM, out);
     }
 }

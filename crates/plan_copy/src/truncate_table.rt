@@ -1,7 +1,7 @@
 // The words of truncation's plan.
 ghost use Rattle.plans.specs.words.TruncatePlan.{truncate_plan};
 
-use crate::copy::{BuiltIn, put};
+use crate::copy::{BuiltIn, write_table};
 
 const TRUNCATE: [u32; 169] = [
     0x50580006, 0x60582C3A, 0x505C0001, 0x605C2E3B, 0x10300000, 0x40301800, 0x50301820, 0x600C2C05,
@@ -39,6 +39,6 @@ impl BuiltIn for Truncate {
     }
 
     fn write(out: &mut [u32]) {
-        put(&TRUNCATE, out);
+        write_table(&TRUNCATE, out);
     }
 }

@@ -4,10 +4,10 @@ use Rattle.word.specs.Encoding.{put}
 use Rattle.plans.specs.words.FloorPlan.{floor_plan}
 use Rattle.plan_copy.proofs.floor_table.FloorBuiltIn.write.Goals as goal
 
-pub put-requires : goal.put-requires
+pub write_table-requires : goal.write_table-requires
 unfolding floor_plan
-put-requires c = c.requires
+write_table-requires c = c.requires
 
 pub returns : goal.returns
 unfolding floor_plan put
-returns c = c.put.ensures ∙ refl
+returns c = c.write_table.ensures ∙ refl

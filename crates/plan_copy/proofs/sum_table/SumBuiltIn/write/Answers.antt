@@ -4,10 +4,10 @@ use Rattle.word.specs.Encoding.{put}
 use Rattle.plans.specs.words.SumPlan.{sum_plan}
 use Rattle.plan_copy.proofs.sum_table.SumBuiltIn.write.Goals as goal
 
-pub put-requires : goal.put-requires
+pub write_table-requires : goal.write_table-requires
 unfolding sum_plan
-put-requires c = c.requires
+write_table-requires c = c.requires
 
 pub returns : goal.returns
 unfolding sum_plan put
-returns c = c.put.ensures ∙ refl
+returns c = c.write_table.ensures ∙ refl

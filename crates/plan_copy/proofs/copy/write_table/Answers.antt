@@ -1,10 +1,10 @@
--- `plan_copy::copy::put` meets its contract: the loop keeps that the words passed are written (Copying).
+-- `plan_copy::copy::write_table` meets its contract: the loop keeps that the words passed are written (Copying).
 use mathlib.Core.Path.{refl, ◌∙◌}
 use Prim.Native.Nat.{◌<◌}
 use native.Mathlib.Omega.{arith}
 use lib.ListN.{length, length-set}
 use Rattle.plan_copy.proofs.Copying.{none_copied, one_copied, all_copied}
-use Rattle.plan_copy.proofs.copy.put.Goals as goal
+use Rattle.plan_copy.proofs.copy.write_table.Goals as goal
 
 pub loop-i-init : goal.loop-i-init
 loop-i-init c = (refl, none_copied c.args.table.now c.args.out.now)
